@@ -1,0 +1,4 @@
+pub mod Crc
+pub mod Wide
+pub mod Burst
+pub mod Claims

@@ -1,0 +1,5 @@
+pub mod Bytes
+pub mod Put
+pub mod Same
+pub mod Order
+pub mod Claims

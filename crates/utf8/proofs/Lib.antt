@@ -1,0 +1,4 @@
+pub mod Rules
+pub mod Follows
+pub mod Octets
+pub mod Passes
