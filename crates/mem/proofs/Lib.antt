@@ -4,3 +4,4 @@ pub mod Scaled
 pub mod CallRules
 pub mod Local
 pub mod TestRules
+pub mod FacadeRules
