@@ -12,14 +12,14 @@ fn value(label: &[u8], sum: u32) {
 fn framed(table: &[u32], first: u8, rest: &[u8])
     requires { ⌜ TableReady (now table) ⌝ }
 {
-    value(b", checksum ", crc32::checksum(first, rest));
+    value(b", checksum ", crc32_wide::checksum(first, rest));
     value(
         b", with an empty table ",
-        crc32::checksum_with(&table[0..0], first, rest),
+        crc32_wide::checksum_with(&table[0..0], first, rest),
     );
     value(
         b", with the wide table ",
-        crc32::checksum_with(table, first, rest),
+        crc32_wide::checksum_with(table, first, rest),
     );
 }
 
@@ -78,7 +78,7 @@ fn runs(table: &[u32])
 
 fn main() {
     let mut table = [0u32; 4096];
-    crc32::fill_table(&mut table);
+    crc32_wide::fill_table(&mut table);
     texts(&table);
     runs(&table);
 }

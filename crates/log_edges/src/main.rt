@@ -213,15 +213,19 @@ fn put_empty(log: &mut [u8], data: &[u8], n: usize) -> usize {
     place
 }
 
-fn most_frames(data: &[u8]) {
-    let mut log = [0u8; 32768];
+fn most_frames_in(log: &mut [u8], data: &[u8]) {
     text(b"frames of no data in one block: place ");
-    number(put_empty(&mut log, data, 4681));
-    put(&mut log, 32767, data, 0);
+    number(put_empty(log, data, 4681));
+    put(log, 32767, data, 0);
     text(b" answers ");
     let mut scratch = [0u8; 8];
-    number(read_into(&log, &mut scratch, data, false));
+    number(read_into(log, &mut scratch, data, false));
     text(b" | place 32767 13 answers 4681\n");
+}
+
+fn most_frames(data: &[u8]) {
+    let mut log = [0u8; 32768];
+    most_frames_in(&mut log, data);
 }
 
 // Whether all of s are b.
@@ -246,27 +250,39 @@ fn show_tail(log: &[u8]) {
 }
 
 // One block filled by a record, and a tail of 100 bytes. A second record does not go into the tail.
+fn tail_in(log: &mut [u8], data: &[u8]) {
+    text(b"a tail of 100 bytes:");
+    put(log, 0, data, 32761);
+    put(log, 32768, data, 5);
+    read_all(log, data);
+    show_tail(log);
+    text(b" | 13 r32761 E tail kept\n");
+}
+
 fn tail(data: &[u8]) {
     let mut log = [170u8; 32868];
     slices::zero_at(&mut log, 0, 32768);
-    text(b"a tail of 100 bytes:");
-    put(&mut log, 0, data, 32761);
-    put(&mut log, 32768, data, 5);
-    read_all(&log, data);
-    show_tail(&log);
-    text(b" | 13 r32761 E tail kept\n");
+    tail_in(&mut log, data);
+}
+
+fn three_whole_blocks(log: &mut [u8], data: &[u8]) {
+    wrong_checksum(log, data);
+    lost_blocks(log, data);
+    long_records(log, data);
+    full(log, data);
+    long_for_scratch(log, data);
+    zeros_before_a_block(log, data);
+}
+
+fn all(log: &mut [u8], data: &mut [u8]) {
+    count_up(data);
+    three_whole_blocks(log, data);
+    tail(data);
+    most_frames(data);
 }
 
 fn main() {
     let mut data = [0u8; 70000];
-    count_up(&mut data);
     let mut log = [0u8; 98304];
-    wrong_checksum(&mut log, &data);
-    lost_blocks(&mut log, &data);
-    long_records(&mut log, &data);
-    full(&mut log, &data);
-    long_for_scratch(&mut log, &data);
-    zeros_before_a_block(&mut log, &data);
-    tail(&data);
-    most_frames(&data);
+    all(&mut log, &mut data);
 }

@@ -1,15 +1,15 @@
--- The comparison of two runs of bytes: what it decides, and how it goes on byte by byte and block by block.
+-- The comparison of two runs of bytes: what it decides, and how it goes on byte by byte.
 -- Assumes nothing.
 use mathlib.Core.Path.{_≡_, refl, sym, ap, ap₂, _∙_}
 use mathlib.Core.Bool.{Bool, true, false, _&&_, false≢true, and-true, and-assoc}
 use mathlib.Core.List.{List, [], _∷_, _++_}
-use Prim.Native.Nat.{ℕ, _+_, _-_, _≤_, _<_}
+use Prim.Native.Nat.{ℕ, _+_, _<_}
 use native.Mathlib.Numerals.{add-one}
 use native.Mathlib.Omega.{arith}
 use lib.Bits.{bitOr, bitXor, or-add-and, xor-add-and, xor-self, and-le-l, and-le-r}
 use lib.Dec.{eqb}
-use lib.ListN.{length, getD, take, drop, length-drop, take-append-drop}
-use lib.Seq.{take-suc, take-all, drop-cons, drop-drop, length-take-le}
+use lib.ListN.{length, getD, take}
+use lib.Seq.{take-suc, length-take-le}
 use borrow.Author.Tests.{eqb-true, eq-eqb, ne-eqb}
 use Rattle.slices.specs.Same.{sameBytes}
 use Rattle.slices.specs.Claims.{SameBytes}
@@ -51,29 +51,6 @@ same-append [] ys (z ∷ zs) ws h = absurd (omega arith)
 same-append (x ∷ xs) ys [] ws h = absurd (omega arith)
 same-append (x ∷ xs) ys (z ∷ zs) ws h = ap (λ (b : Bool). eqb x z && b) (same-append xs ys zs ws (omega arith)) ∙ sym (and-assoc (eqb x z) (sameBytes xs zs) (sameBytes ys ws))
 
--- ---- from a place on
-
--- the first byte from the place i on
-pub same-step : (a b : List ℕ) (i : ℕ) → i < length a → i < length b
-    → sameBytes (drop i a) (drop i b) ≡ eqb (getD a i 0) (getD b i 0) && sameBytes (drop (i + 1) a) (drop (i + 1) b)
-unfolding sameBytes
-same-step a b i h l =
-    ap₂ sameBytes (drop-cons a i 0 h) (drop-cons b i 0 l)
-    ∙ ap (λ (k : ℕ). eqb (getD a i 0) (getD b i 0) && sameBytes (drop k a) (drop k b)) (sym (add-one i))
-
--- the first n bytes from the place i on
-pub same-block-step : (a b : List ℕ) (i n : ℕ) → i + n ≤ length a → length a ≡ length b
-    → sameBytes (drop i a) (drop i b) ≡ sameBytes (take n (drop i a)) (take n (drop i b)) && sameBytes (drop (i + n) a) (drop (i + n) b)
-same-block-step a b i n h e =
-    sym (ap₂ sameBytes (take-append-drop n (drop i a)) (take-append-drop n (drop i b)))
-    ∙ same-append (take n (drop i a)) (drop n (drop i a)) (take n (drop i b)) (drop n (drop i b))
-    (length-take-le n (drop i a) (omega (arith, length-drop i a)) ∙ sym (length-take-le n (drop i b) (omega (arith, length-drop i b))))
-    ∙ ap₂ (λ (x y : List ℕ). sameBytes (take n (drop i a)) (take n (drop i b)) && sameBytes x y) (drop-drop n i a) (drop-drop n i b)
-
--- the part that `&a[i..]` lends
-pub rest-part : (a : List ℕ) (i : ℕ) → take (length a - i) (drop i a) ≡ drop i a
-rest-part a i = take-all (length a - i) (drop i a) (omega (arith, length-drop i a))
-
 -- ---- without a branch
 
 or-none : (x y : ℕ) → bitOr x y ≡ 0 → (x ≡ 0) × (y ≡ 0)
@@ -93,10 +70,10 @@ differ-more d x y = go (eqb d 0) (eqb x y) refl refl
     go true false a b = ne-eqb (bitOr d (bitXor x y)) 0 (λ e. absurd (false≢true (sym b ∙ eq-eqb x y (xor-none x y (or-none d (bitXor x y) e .1)))))
     go false q a b = ne-eqb (bitOr d (bitXor x y)) 0 (λ e. absurd (false≢true (sym a ∙ eq-eqb d 0 (or-none d (bitXor x y) e .0))))
 
-pub block-more : (a b : List ℕ) (i d : ℕ) → i < length a → i < length b → eqb d 0 ≡ sameBytes (take i a) (take i b)
+pub same-more : (a b : List ℕ) (i d : ℕ) → i < length a → i < length b → eqb d 0 ≡ sameBytes (take i a) (take i b)
     → eqb (bitOr d (bitXor (getD a i 0) (getD b i 0))) 0 ≡ sameBytes (take (i + 1) a) (take (i + 1) b)
 unfolding sameBytes
-block-more a b i d h l e =
+same-more a b i d h l e =
     differ-more d (getD a i 0) (getD b i 0)
     ∙ ap₂ _&&_ e (sym (and-true (eqb (getD a i 0) (getD b i 0))))
     ∙ sym (same-append (take i a) (getD a i 0 ∷ []) (take i b) (getD b i 0 ∷ []) (length-take-le i a (omega arith) ∙ sym (length-take-le i b (omega arith))))

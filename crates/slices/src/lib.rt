@@ -62,36 +62,7 @@ pub fn move_up(s: &mut [u8], to: usize, from: usize, n: usize)
     }
 }
 
-// Whether the first 32 bytes of the two are the same: no branch on a byte, so that it becomes vector code.
-fn same_block(a: &[u8], b: &[u8]) -> bool
-    requires { ⌜ (32 ≤ length (now a)) × (32 ≤ length (now b)) ⌝ }
-    ensures { λ r. ⌜ r ≡ sameBytes (take 32 (now (a .entry))) (take 32 (now (b .entry))) ⌝ }
-{
-    let mut i = 0;
-    let mut differ: u8 = 0;
-    while i < 32 {
-        differ |= a[i] ^ b[i];
-        i += 1;
-    }
-    differ == 0
-}
-
-// Whether the two, which are equally long, are the same: byte for byte.
-fn same_rest(a: &[u8], b: &[u8]) -> bool
-    requires { ⌜ length (now a) ≡ length (now b) ⌝ }
-    ensures { λ r. ⌜ r ≡ sameBytes (now (a .entry)) (now (b .entry)) ⌝ }
-{
-    let mut i = 0;
-    while i < a.len() {
-        if a[i] != b[i] {
-            return false;
-        }
-        i += 1;
-    }
-    true
-}
-
-// Whether the two are the same: 32 bytes at a time, then byte for byte.
+// Whether the two are the same: no branch on a byte, so that it becomes vector code.
 pub fn same(a: &[u8], b: &[u8]) -> bool
     ensures { λ r. ⌜ r ≡ sameBytes (now (a .entry)) (now (b .entry)) ⌝ }
 {
@@ -99,13 +70,12 @@ pub fn same(a: &[u8], b: &[u8]) -> bool
         return false;
     }
     let mut i = 0;
-    while 32 <= a.len() - i {
-        if !same_block(&a[i..], &b[i..]) {
-            return false;
-        }
-        i += 32;
+    let mut differ: u8 = 0;
+    while i < a.len() {
+        differ |= a[i] ^ b[i];
+        i += 1;
     }
-    same_rest(&a[i..], &b[i..])
+    differ == 0
 }
 
 // How a stands to b in byte order.

@@ -1,0 +1,5 @@
+pub mod Typed
+pub mod DoingRules
+pub mod Pushing
+pub mod ApplyRule
+pub mod ByteSlices

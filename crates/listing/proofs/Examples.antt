@@ -1,0 +1,23 @@
+-- The computed facts on the text: 01's example, numbers, fills, a refusal.
+-- Assumes nothing.
+use mathlib.Core.Path.{refl}
+use Rattle.queues.specs.Queues.{next, nextFrom}
+use Rattle.listing.specs.Digits.{digit, hexRun, hex, decimalIn, decimal}
+use Rattle.listing.specs.Listing.{numbered, numberLine, headLine, queueLine, recordLine, recordLines, queueLines, wholeBytes, halvesUp, fillTenths, fillLine, endLines, listing, refusal}
+use Rattle.listing.specs.Claims.{Example, LastNumber, Fills, RefusalText}
+
+pub example : Example
+unfolding next nextFrom digit hexRun hex decimalIn decimal numbered numberLine headLine queueLine recordLine recordLines queueLines wholeBytes halvesUp fillTenths fillLine endLines listing
+example = refl
+
+pub last-number : LastNumber
+unfolding digit decimalIn decimal
+last-number = (refl, refl)
+
+pub fills : Fills
+unfolding wholeBytes halvesUp fillTenths
+fills = (refl, (refl, refl))
+
+pub refusal-text : RefusalText
+unfolding digit decimalIn decimal numbered numberLine refusal
+refusal-text = refl

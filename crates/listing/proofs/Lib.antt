@@ -1,0 +1,11 @@
+pub mod Writes
+pub mod Notation
+pub mod Parts
+pub mod Steps
+pub mod Counting
+pub mod Meanings
+pub mod CallRules
+pub mod Examples
+pub mod Readback
+pub mod Bounds
+pub mod FacadeRules

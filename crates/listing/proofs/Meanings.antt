@@ -1,0 +1,219 @@
+-- What the passes count and write of an arranged memory is what the queues that it means have.
+-- Assumes nothing.
+use mathlib.Core.Path.{_≡_, refl, sym, ap, ap₂, _∙_}
+use mathlib.Core.Bool.{Bool, true, false, cond, _&&_}
+use mathlib.Core.List.{List, [], _∷_, _++_, append-assoc, append-nil}
+use Prim.Native.Nat.{ℕ, zero, suc, _+_, _≤_, _<_}
+use native.Mathlib.Omega.{arith}
+use lib.Dec.{eqb}
+use lib.ListN.{length, take, drop, getD, length-append}
+use lib.Seq.{take-suc, drop-drop, getD-drop}
+use borrow.Author.Tests.{eqb-true}
+use Rattle.record.specs.Record.{Item, item}
+use Rattle.queues.specs.declared.RecordEntry.{RecordEntry}
+use Rattle.queues.specs.Queues.{Queue, queue, next}
+use Rattle.queues.specs.Layout.{Memory, memory, Arrived, rowAt, queuesHeld, recordsHeld, rowsFrom, rows, nameLengths, arrivals, lengths, itemsOf, queuesFrom, meaning, nextsTrue, arranged}
+use Rattle.queues.specs.Changes.{blank, wordAt}
+use Rattle.queues.proofs.Both.{and-left, and-right}
+use Rattle.queues.proofs.ArrangedFacts.{Arrangement, arranged-arrangement}
+use Rattle.queues.proofs.Arrivals.{items-append, arrivals-append, lengths-append}
+use Rattle.queues.proofs.SumsHeld.{queues-held}
+use Rattle.listing.specs.Writing.{written, behind, listed, Wrote}
+use Rattle.listing.specs.Listing.{queuesWord, numberLine, headLine, queueLine, recordLine, recordLines, queueLines, endLines, listing}
+use Rattle.listing.specs.Passes.{rowLine, entryLine, counted, countTo, passedTo, linesTo, namesTo, queueText, queuesTo, QueuesFit}
+use Rattle.listing.proofs.Writes.{length-written, wrote, on, reads, listed-behind}
+
+-- ---- the entries of one queue
+
+passed-is : (es : List RecordEntry) (n : ℕ) → n ≤ length es → passedTo es n ≡ lengths (take n es)
+unfolding passedTo lengths
+passed-is es zero h = refl
+passed-is es (suc n) h =
+    let e : take (suc n) es ≡ take n es ++ (getD es n blank ∷ []) = take-suc es n blank (omega arith) in
+    let f : getD es n blank .length + 0 ≡ getD es n blank .length = omega arith in
+    ap₂ (λ (a b : ℕ). a + b) (passed-is es n (omega arith)) (sym f) ∙ sym (lengths-append (take n es) (getD es n blank ∷ [])) ∙ ap lengths (sym e)
+
+lines-append : (is js : List Item) → recordLines (is ++ js) ≡ recordLines is ++ recordLines js
+unfolding recordLines
+lines-append [] js = refl
+lines-append (i ∷ is) js = ap (λ (l : List ℕ). recordLine i ++ l) (lines-append is js) ∙ sym (append-assoc (recordLine i) (recordLines is) (recordLines js))
+
+module _ (k : ℕ) (es : List RecordEntry) (ps : List ℕ) where
+  -- the items of the first n entries
+  abbrev items : ℕ → List Item
+  items n = itemsOf k (arrivals (take n es) ps)
+
+  -- the item of one entry, if it is of the queue
+  abbrev one : RecordEntry → ℕ → List Item
+  one e p = itemsOf k (arrivals (e ∷ []) (drop p ps))
+
+  one-line : (e : RecordEntry) (p : ℕ) → recordLines (one e p) ≡ entryLine k e (take (e .length) (drop p ps))
+  unfolding recordLines entryLine itemsOf arrivals
+  one-line e p = on-test (eqb (e .queue) k)
+    where
+      on-test : (b : Bool) → recordLines (cond b (item (e .position) (take (e .length) (drop p ps)) ∷ []) []) ≡ cond b (recordLine (item (e .position) (take (e .length) (drop p ps)))) []
+      on-test true = append-nil (recordLine (item (e .position) (take (e .length) (drop p ps))))
+      on-test false = refl
+
+  one-count : (e : RecordEntry) (p n : ℕ) → n + length (one e p) ≡ counted k e n
+  unfolding counted itemsOf arrivals
+  one-count e p n = on-test (eqb (e .queue) k)
+    where
+      on-test : (b : Bool) → n + length (cond b (item (e .position) (take (e .length) (drop p ps)) ∷ []) []) ≡ cond b (n + 1) n
+      on-test true = refl
+      on-test false = omega arith
+
+  items-more : (n : ℕ) → n < length es → items (suc n) ≡ items n ++ one (getD es n blank) (passedTo es n)
+  items-more n h =
+      ap (λ (l : List RecordEntry). itemsOf k (arrivals l ps)) (take-suc es n blank h)
+      ∙ ap (itemsOf k) (arrivals-append (take n es) (getD es n blank ∷ []) ps)
+      ∙ items-append k (arrivals (take n es) ps) (arrivals (getD es n blank ∷ []) (drop (lengths (take n es)) ps))
+      ∙ ap (λ (p : ℕ). items n ++ one (getD es n blank) p) (sym (passed-is es n (omega arith)))
+
+  lines-are : (n : ℕ) → n ≤ length es → recordLines (items n) ≡ linesTo k es ps n
+  unfolding linesTo recordLines itemsOf arrivals
+  lines-are zero h = refl
+  lines-are (suc n) h =
+      ap recordLines (items-more n (omega arith)) ∙ lines-append (items n) (one (getD es n blank) (passedTo es n))
+      ∙ ap₂ (λ (a b : List ℕ). a ++ b) (lines-are n (omega arith)) (one-line (getD es n blank) (passedTo es n))
+
+  count-are : (n : ℕ) → n ≤ length es → length (items n) ≡ countTo k es n
+  unfolding countTo itemsOf arrivals
+  count-are zero h = refl
+  count-are (suc n) h =
+      ap length (items-more n (omega arith)) ∙ length-append (items n) (one (getD es n blank) (passedTo es n))
+      ∙ ap (λ (a : ℕ). a + length (one (getD es n blank) (passedTo es n))) (count-are n (omega arith))
+      ∙ one-count (getD es n blank) (passedTo es n) (countTo k es n)
+
+-- ---- the rows
+
+-- the words of row j, and the rows behind it
+word-is : (t : List ℕ) (j i : ℕ) → getD (drop (rowAt j) t) i 0 ≡ wordAt t j i
+word-is t j i = getD-drop (rowAt j) t i 0
+
+behind-row : (t : List ℕ) (j : ℕ) → drop 3 (drop (rowAt j) t) ≡ drop (rowAt (suc j)) t
+behind-row t j = let e : rowAt j + 3 ≡ rowAt (suc j) = omega arith in drop-drop 3 (rowAt j) t ∙ ap (λ (n : ℕ). drop n t) e
+
+names-are : (t : List ℕ) (j k : ℕ) → namesTo t j + nameLengths (rowsFrom k (drop (rowAt j) t)) ≡ namesTo t (j + k)
+unfolding rowsFrom nameLengths namesTo
+names-are t j zero = let e : j + 0 ≡ j = omega arith in rw e (omega arith)
+names-are t j (suc k) =
+    let e : suc j + k ≡ j + suc k = omega arith in
+    let f : namesTo t j + (getD (drop (rowAt j) t) 0 0 + nameLengths (rowsFrom k (drop 3 (drop (rowAt j) t)))) ≡ namesTo t j + (wordAt t j 0 + nameLengths (rowsFrom k (drop (rowAt (suc j)) t))) =
+    ap₂ (λ (a : ℕ) (ws : List ℕ). namesTo t j + (a + nameLengths (rowsFrom k ws))) (word-is t j 0) (behind-row t j) in
+    let g : namesTo t j + (wordAt t j 0 + nameLengths (rowsFrom k (drop (rowAt (suc j)) t))) ≡ namesTo t (suc j) + nameLengths (rowsFrom k (drop (rowAt (suc j)) t)) = omega arith in
+    f ∙ g ∙ names-are t (suc j) k ∙ ap (namesTo t) e
+
+-- the queues from row j on
+module _ (ns ps : List ℕ) (es : List RecordEntry) (t : List ℕ) (n : ℕ) (h : n ≤ length es) where
+  abbrev came : List Arrived
+  came = arrivals (take n es) ps
+
+  abbrev from : ℕ → ℕ → List Queue
+  from j k = queuesFrom j (rowsFrom k (drop (rowAt j) t)) (drop (namesTo t j) ns) came
+
+  -- the first of them
+  abbrev here : ℕ → Queue
+  here j = queue (take (wordAt t j 0) (drop (namesTo t j) ns)) (wordAt t j 1) (itemsOf j came)
+
+  from-next : (j k : ℕ) → from j (suc k) ≡ here j ∷ from (suc j) k
+  unfolding queuesFrom rowsFrom namesTo
+  from-next j k =
+      ap₂ (λ (a b : ℕ). queue (take a (drop (namesTo t j) ns)) b (itemsOf j came) ∷ queuesFrom (suc j) (rowsFrom k (drop 3 (drop (rowAt j) t))) (drop a (drop (namesTo t j) ns)) came)
+      (word-is t j 0) (word-is t j 1)
+      ∙ ap₂ (λ (ws l : List ℕ). here j ∷ queuesFrom (suc j) (rowsFrom k ws) l came) (behind-row t j) (drop-drop (wordAt t j 0) (namesTo t j) ns)
+
+  next-here : (j k : ℕ) → nextsTrue (rowsFrom (suc k) (drop (rowAt j) t)) (from j (suc k)) ≡ true
+      → (wordAt t j 2 ≡ next (here j)) × (nextsTrue (rowsFrom k (drop (rowAt (suc j)) t)) (from (suc j) k) ≡ true)
+  unfolding rowsFrom nextsTrue
+  next-here j k e =
+      let first : Bool = eqb (getD (drop (rowAt j) t) 2 0) (next (here j)) in
+      let others : Bool = nextsTrue (rowsFrom k (drop 3 (drop (rowAt j) t))) (from (suc j) k) in
+      let f : first && others ≡ true = rw from-next at e in (
+        sym (word-is t j 2) ∙ eqb-true (getD (drop (rowAt j) t) 2 0) (next (here j)) (and-left first others f),
+        ap (λ (ws : List ℕ). nextsTrue (rowsFrom k ws) (from (suc j) k)) (sym (behind-row t j)) ∙ and-right first others f,
+      )
+
+  text-here : (j : ℕ) → wordAt t j 2 ≡ next (here j) → queueLine (here j) ++ recordLines (here j .records) ≡ queueText ns ps es t n (namesTo t j) j
+  unfolding queueLine queueText rowLine
+  text-here j e =
+      ap₂ (λ (a b : List ℕ). a ++ b)
+      (ap₂ (λ (x c : ℕ). headLine (take (wordAt t j 0) (drop (namesTo t j) ns)) (wordAt t j 1) x c) (sym e) (count-are j es ps n h))
+      (lines-are j es ps n h)
+
+  texts-are : (k j : ℕ) → nextsTrue (rowsFrom k (drop (rowAt j) t)) (from j k) ≡ true → queuesTo ns ps es t n j ++ queueLines (from j k) ≡ queuesTo ns ps es t n (j + k)
+  unfolding queueLines queuesTo queuesFrom rowsFrom
+  texts-are zero j e = let f : j + 0 ≡ j = omega arith in append-nil (queuesTo ns ps es t n j) ∙ ap (queuesTo ns ps es t n) (sym f)
+  texts-are (suc k) j e =
+      let f : suc j + k ≡ j + suc k = omega arith in
+      let both : (wordAt t j 2 ≡ next (here j)) × (nextsTrue (rowsFrom k (drop (rowAt (suc j)) t)) (from (suc j) k) ≡ true) = next-here j k e in
+      ap (λ (qs : List Queue). queuesTo ns ps es t n j ++ queueLines qs) (from-next j k)
+      ∙ ap (λ (l : List ℕ). queuesTo ns ps es t n j ++ l) (sym (append-assoc (queueLine (here j)) (recordLines (here j .records)) (queueLines (from (suc j) k))))
+      ∙ ap (λ (l : List ℕ). queuesTo ns ps es t n j ++ (l ++ queueLines (from (suc j) k))) (text-here j (both .0))
+      ∙ sym (append-assoc (queuesTo ns ps es t n j) (queueText ns ps es t n (namesTo t j) j) (queueLines (from (suc j) k)))
+      ∙ texts-are k (suc j) (both .1)
+      ∙ ap (queuesTo ns ps es t n) f
+
+-- ---- an arranged memory
+
+module _ (m : Memory) (a : arranged m ≡ true) where
+  facts : Arrangement m
+  facts = arranged-arrangement m a
+
+  pub queues-fit : QueuesFit (m .names) (m .payloads) (m .entries) (m .table) (recordsHeld (m .table)) (queuesHeld (m .table))
+  unfolding rows namesTo
+  queues-fit =
+      let e : 0 + queuesHeld (m .table) ≡ queuesHeld (m .table) = omega arith in
+      record {
+        entries = record { in-table = facts .records-fit; in-payloads = omega (arith, passed-is (m .entries) (recordsHeld (m .table)) (facts .records-fit), facts .payloads-sum, facts .payloads-fit) };
+        rows-fit = facts .words-fit;
+        names-fit = omega (arith, names-are (m .table) 0 (queuesHeld (m .table)) ∙ ap (namesTo (m .table)) e, facts .names-sum, facts .names-fit);
+      }
+
+  texts-mean : queuesTo (m .names) (m .payloads) (m .entries) (m .table) (recordsHeld (m .table)) (queuesHeld (m .table)) ≡ queueLines (meaning m)
+  unfolding meaning rows namesTo queuesTo
+  texts-mean =
+      let e : 0 + queuesHeld (m .table) ≡ queuesHeld (m .table) = omega arith in
+      ap (queuesTo (m .names) (m .payloads) (m .entries) (m .table) (recordsHeld (m .table))) (sym e)
+      ∙ sym (texts-are (m .names) (m .payloads) (m .entries) (m .table) (recordsHeld (m .table)) (facts .records-fit) (queuesHeld (m .table)) 0 (facts .nexts))
+
+  text-means : (lost resumed bytes : ℕ)
+      → numberLine queuesWord (queuesHeld (m .table))
+      ++ (queuesTo (m .names) (m .payloads) (m .entries) (m .table) (recordsHeld (m .table)) (queuesHeld (m .table)) ++ endLines lost resumed bytes)
+      ≡ listing (meaning m) lost resumed bytes
+  unfolding listing
+  text-means lost resumed bytes =
+      ap₂ (λ (n : ℕ) (l : List ℕ). numberLine queuesWord n ++ (l ++ endLines lost resumed bytes)) (sym (queues-held m facts)) texts-mean
+
+-- ---- three pieces, written from the buffer's start on
+
+-- the answer for the last place, and what is left in the buffer, are those of the whole text
+module _ (s xs ys zs text : List ℕ) where
+  abbrev first : List ℕ
+  first = written s 0 xs
+
+  abbrev at-first : ℕ
+  at-first = behind (length s) 0 (length xs)
+
+  abbrev second : List ℕ
+  second = written first at-first ys
+
+  abbrev at-second : ℕ
+  at-second = behind (length first) at-first (length ys)
+
+  abbrev pub Pieces : Type 0
+  Pieces = (listed (length second) (behind (length second) at-second (length zs)) ≡ listed (length s) (length text)) × (written second at-second zs ≡ written s 0 text)
+
+  pieces : xs ++ (ys ++ zs) ≡ text → Pieces
+  pieces e =
+      let two : Wrote first at-first (ys ++ zs) (behind (length second) at-second (length zs)) (written second at-second zs) =
+      on (wrote {xs = ys} refl refl) (wrote {xs = zs} refl refl) in
+      let all : Wrote s 0 text (behind (length second) at-second (length zs)) (written second at-second zs) = reads e (on (wrote {xs = xs} refl refl) two) in
+      let long : length second ≡ length s = length-written first at-first ys ∙ length-written s 0 xs in
+      (ap₂ listed long (all .place) ∙ listed-behind (length s) (length text), all .buffer)
+
+pub list-is : (ns ps : List ℕ) (es : List RecordEntry) (t : List ℕ) (lost resumed bytes : ℕ) (s : List ℕ) → arranged (memory ns ps es t) ≡ true
+    → Pieces s (numberLine queuesWord (queuesHeld t)) (queuesTo ns ps es t (recordsHeld t) (queuesHeld t)) (endLines lost resumed bytes) (listing (meaning (memory ns ps es t)) lost resumed bytes)
+list-is ns ps es t lost resumed bytes s a =
+    pieces s (numberLine queuesWord (queuesHeld t)) (queuesTo ns ps es t (recordsHeld t) (queuesHeld t)) (endLines lost resumed bytes) (listing (meaning (memory ns ps es t)) lost resumed bytes)
+    (text-means (memory ns ps es t) a lost resumed bytes)

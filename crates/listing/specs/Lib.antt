@@ -1,0 +1,5 @@
+pub mod Digits
+pub mod Writing
+pub mod Listing
+pub mod Passes
+pub mod Claims

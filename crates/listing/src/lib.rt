@@ -1,0 +1,21 @@
+// The listing of a card: the text of 01's "Readout" in a lent buffer.
+mod digits;
+mod lines;
+mod passes;
+mod text;
+mod write;
+
+pub use passes::list;
+pub use text::refused;
+
+// What became of a text: it stands in the buffer, in so many bytes, or the buffer is too short for it.
+pub enum Listed {
+    Bytes(usize),
+    NoRoom,
+}
+
+// The place in the buffer, and how many bytes of the names or payloads are passed.
+pub struct Cursor {
+    pub at: usize,
+    pub passed: usize,
+}

@@ -1,0 +1,4 @@
+pub mod Typed
+pub mod CallRules
+pub mod QuestionRules
+pub mod QuestionsKept

@@ -1,0 +1,4 @@
+pub mod Looked
+pub mod Plan
+pub mod Answers
+pub mod Decided
