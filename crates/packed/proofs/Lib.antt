@@ -1,0 +1,9 @@
+pub mod Entries
+pub mod PackRules
+pub mod Laws
+pub mod Known
+pub mod WriteRules
+pub mod AskRules
+pub mod ReplayRules
+pub mod Literal
+pub mod OwnTable
