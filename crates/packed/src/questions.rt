@@ -31,7 +31,7 @@ pub fn range(
     };
     let mut records = [blank; 1024];
     unpack(entries, &mut records, 1024);
-    multi_record_log::range(names, payloads, &records, table, name, lower, upper)
+    multi_record_log::range_at(names, payloads, &records, table, name, lower, upper)
 }
 
 // The start and the next position of a queue.
