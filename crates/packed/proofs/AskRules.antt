@@ -47,10 +47,10 @@ use Rattle.queues.proofs.Upper as Upp
 use Rattle.queues.proofs.Upper.Laws as Upp′
 use Rattle.queues.specs.Layout.{memory}
 use Rattle.lent.specs.Contracts.{RangeKept, PositionsKept}
-use Rattle.multi_record_log.proofs.range_at as range
-use Rattle.multi_record_log.proofs.range_at.Symbol.{name as #multi-record-log·range-at}
-use Rattle.multi_record_log.proofs.positions as positions
-use Rattle.multi_record_log.proofs.positions.Symbol.{name as #multi-record-log·positions}
+use Rattle.asking.proofs.range_at as range
+use Rattle.asking.proofs.range_at.Symbol.{name as #asking·range-at}
+use Rattle.asking.proofs.positions as positions
+use Rattle.asking.proofs.positions.Symbol.{name as #asking·positions}
 
 -- ---- the contracts
 abbrev pub IsRangeAnswer : RangeAnswer → Type 0
@@ -86,10 +86,10 @@ asks-positions 𝓤 H A W mem run κ-names s-names γ-names b-names o-names n-na
 
 module _ {M : Type 1} {𝓤 : URA M} {H : Heap 𝓤} {A : Atoms 𝓤} {K : Type 0} {W : Given 𝓤 H A} {Γ : List (Item 𝓤)} {E : Env 𝓤 H} {C : Calls 𝓤 H} {Λ : Loops 𝓤 H} {p : Post 𝓤 H} {d : Target} {rest : Body} {xs : List Operand} where
   module _ (mem : Memory → SProp 𝓤) (run : Routine → Fun 𝓤) where
-    pub range! : K → FmC 𝓤 H (W .laws) C → Triple 𝓤 (C #multi-record-log·range-at) (RangeSays 𝓤 H A mem run) → {κ-names : Lft} {s-names : Share} {γ-names : GName} {b-names o-names n-names : ℕ} {κ-payloads : Lft} {s-payloads : Share} {γ-payloads : GName} {b-payloads o-payloads n-payloads : ℕ} {κ-entries : Lft} {s-entries : Share} {γ-entries : GName} {b-entries o-entries n-entries : ℕ} {κ-table : Lft} {s-table : Share} {γ-table : GName} {b-table o-table n-table : ℕ} {κ-name : Lft} {s-name : Share} {γ-name : GName} {b-name o-name n-name : ℕ} (names : List ℕ) → length names ≡ n-names → (payloads : List ℕ) → length payloads ≡ n-payloads → (entries : List RecordEntry) → length entries ≡ n-entries → Room Entry.the-row n-entries → (table : List ℕ) → length table ≡ n-table → (name : List ℕ) → length name ≡ n-name → (lower : Lower) → IsLower lower → (upper : Upper) → IsUpper upper →
+    pub range! : K → FmC 𝓤 H (W .laws) C → Triple 𝓤 (C #asking·range-at) (RangeSays 𝓤 H A mem run) → {κ-names : Lft} {s-names : Share} {γ-names : GName} {b-names o-names n-names : ℕ} {κ-payloads : Lft} {s-payloads : Share} {γ-payloads : GName} {b-payloads o-payloads n-payloads : ℕ} {κ-entries : Lft} {s-entries : Share} {γ-entries : GName} {b-entries o-entries n-entries : ℕ} {κ-table : Lft} {s-table : Share} {γ-table : GName} {b-table o-table n-table : ℕ} {κ-name : Lft} {s-name : Share} {γ-name : GName} {b-name o-name n-name : ℕ} (names : List ℕ) → length names ≡ n-names → (payloads : List ℕ) → length payloads ≡ n-payloads → (entries : List RecordEntry) → length entries ≡ n-entries → Room Entry.the-row n-entries → (table : List ℕ) → length table ≡ n-table → (name : List ℕ) → length name ≡ n-name → (lower : Lower) → IsLower lower → (upper : Upper) → IsUpper upper →
         ((j : Item 𝓤) → Opds K W (j ∷ Γ) E xs (slice u8 κ-names s-names γ-names b-names o-names n-names ∷ slice u8 κ-payloads s-payloads γ-payloads b-payloads o-payloads n-payloads ∷ slice Entry.the-row κ-entries s-entries γ-entries b-entries o-entries n-entries ∷ slice u64 κ-table s-table γ-table b-table o-table n-table ∷ slice u8 κ-name s-name γ-name b-name o-name n-name ∷ Low′.lowered lower ∷ Upp′.lowered upper ∷ []))
         → ((r : RangeAnswer) → IsRangeAnswer r → RangeKept (memory names payloads entries table) name lower upper r → Seq K W (‵ (HoldShr u8 κ-names s-names γ-names b-names o-names n-names names) ∷ ‵ (HoldShr u8 κ-payloads s-payloads γ-payloads b-payloads o-payloads n-payloads payloads) ∷ ‵ (Hold Entry.the-row κ-entries s-entries γ-entries b-entries o-entries n-entries entries) ∷ ‵ (HoldShr u64 κ-table s-table γ-table b-table o-table n-table table) ∷ ‵ (HoldShr u8 κ-name s-name γ-name b-name o-name n-name name) ∷ Γ) (lands C Λ E d (RgA′.lowered r) rest p))
-        → Seq K W (‵ (HoldShr u8 κ-names s-names γ-names b-names o-names n-names names) ∷ ‵ (HoldShr u8 κ-payloads s-payloads γ-payloads b-payloads o-payloads n-payloads payloads) ∷ ‵ (Hold Entry.the-row κ-entries s-entries γ-entries b-entries o-entries n-entries entries) ∷ ‵ (HoldShr u64 κ-table s-table γ-table b-table o-table n-table table) ∷ ‵ (HoldShr u8 κ-name s-name γ-name b-name o-name n-name name) ∷ Γ) (runs C Λ E (seq (call #multi-record-log·range-at xs d) rest) p)
+        → Seq K W (‵ (HoldShr u8 κ-names s-names γ-names b-names o-names n-names names) ∷ ‵ (HoldShr u8 κ-payloads s-payloads γ-payloads b-payloads o-payloads n-payloads payloads) ∷ ‵ (Hold Entry.the-row κ-entries s-entries γ-entries b-entries o-entries n-entries entries) ∷ ‵ (HoldShr u64 κ-table s-table γ-table b-table o-table n-table table) ∷ ‵ (HoldShr u8 κ-name s-name γ-name b-name o-name n-name name) ∷ Γ) (runs C Λ E (seq (call #asking·range-at xs d) rest) p)
     range! t fm known {κ-names} {s-names} {γ-names} {b-names} {o-names} {n-names} {κ-payloads} {s-payloads} {γ-payloads} {b-payloads} {o-payloads} {n-payloads} {κ-entries} {s-entries} {γ-entries} {b-entries} {o-entries} {n-entries} {κ-table} {s-table} {γ-table} {b-table} {o-table} {n-table} {κ-name} {s-name} {γ-name} {b-name} {o-name} {n-name} names len-names payloads len-payloads entries len-entries room-entries table len-table name len-name lower lower-is upper upper-is opds k =
         fsplit t $ use1 W (‵ (ShrSlice (named 0) κ-names u8 .own (at-list u8 κ-names s-names γ-names b-names o-names n-names γ-names names) (slice u8 κ-names s-names γ-names b-names o-names n-names ∷ [])) ⊛ ‵ (ShrSlice (named 0) κ-names u8 .own (at-list u8 κ-names s-names γ-names b-names o-names n-names γ-names names) (slice u8 κ-names s-names γ-names b-names o-names n-names ∷ []))) (shr-slice-copy 𝓤 H A W (named 0) κ-names u8 .twice (at-list u8 κ-names s-names γ-names b-names o-names n-names γ-names names) (slice u8 κ-names s-names γ-names b-names o-names n-names ∷ [])) $ split t $
         move t (3 ∷ []) $ fsplit t $ use1 W (‵ (ShrSlice (named 0) κ-payloads u8 .own (at-list u8 κ-payloads s-payloads γ-payloads b-payloads o-payloads n-payloads γ-payloads payloads) (slice u8 κ-payloads s-payloads γ-payloads b-payloads o-payloads n-payloads ∷ [])) ⊛ ‵ (ShrSlice (named 0) κ-payloads u8 .own (at-list u8 κ-payloads s-payloads γ-payloads b-payloads o-payloads n-payloads γ-payloads payloads) (slice u8 κ-payloads s-payloads γ-payloads b-payloads o-payloads n-payloads ∷ []))) (shr-slice-copy 𝓤 H A W (named 0) κ-payloads u8 .twice (at-list u8 κ-payloads s-payloads γ-payloads b-payloads o-payloads n-payloads γ-payloads payloads) (slice u8 κ-payloads s-payloads γ-payloads b-payloads o-payloads n-payloads ∷ [])) $ split t $
@@ -120,10 +120,10 @@ module _ {M : Type 1} {𝓤 : URA M} {H : Heap 𝓤} {A : Atoms 𝓤} {K : Type 
         asks : (ν-entries : ℕ) (δ-entries : GName) → ent 𝓤 (⋆ 𝓤 H A (‵ (flft κ-names s-names) ∷ ‵ (flft κ-payloads s-payloads) ∷ ‵ (flft (ν-entries ∷ []) fullShare) ∷ ‵ (flft κ-table s-table) ∷ ‵ (flft κ-name s-name) ∷ ‵ (ShrSlice (named 0) κ-names u8 .own (at-list u8 κ-names s-names γ-names b-names o-names n-names γ-names names) (slice u8 κ-names s-names γ-names b-names o-names n-names ∷ [])) ∷ ‵ (ShrSlice (named 0) κ-payloads u8 .own (at-list u8 κ-payloads s-payloads γ-payloads b-payloads o-payloads n-payloads γ-payloads payloads) (slice u8 κ-payloads s-payloads γ-payloads b-payloads o-payloads n-payloads ∷ [])) ∷ ‵ (ShrSlice (named 0) (ν-entries ∷ []) Entry.the-row .own (at-list Entry.the-row κ-entries s-entries γ-entries b-entries o-entries n-entries δ-entries entries) (slice Entry.the-row κ-entries s-entries γ-entries b-entries o-entries n-entries ∷ [])) ∷ ‵ (ShrSlice (named 0) κ-table u64 .own (at-list u64 κ-table s-table γ-table b-table o-table n-table γ-table table) (slice u64 κ-table s-table γ-table b-table o-table n-table ∷ [])) ∷ ‵ (ShrSlice (named 0) κ-name u8 .own (at-list u8 κ-name s-name γ-name b-name o-name n-name γ-name name) (slice u8 κ-name s-name γ-name b-name o-name n-name ∷ [])) ∷ [])) ((RangeSays 𝓤 H A mem run) .pre (to ν-entries δ-entries))
         asks ν-entries δ-entries = asks-range 𝓤 H A W mem run κ-names s-names γ-names b-names o-names n-names κ-payloads s-payloads γ-payloads b-payloads o-payloads n-payloads κ-entries s-entries γ-entries b-entries o-entries n-entries κ-table s-table γ-table b-table o-table n-table κ-name s-name γ-name b-name o-name n-name names payloads entries table name lower lower-is upper upper-is ν-entries δ-entries
 
-    pub positions! : K → FmC 𝓤 H (W .laws) C → Triple 𝓤 (C #multi-record-log·positions) (PositionsSays 𝓤 H A mem run) → {κ-names : Lft} {s-names : Share} {γ-names : GName} {b-names o-names n-names : ℕ} {κ-payloads : Lft} {s-payloads : Share} {γ-payloads : GName} {b-payloads o-payloads n-payloads : ℕ} {κ-entries : Lft} {s-entries : Share} {γ-entries : GName} {b-entries o-entries n-entries : ℕ} {κ-table : Lft} {s-table : Share} {γ-table : GName} {b-table o-table n-table : ℕ} {κ-name : Lft} {s-name : Share} {γ-name : GName} {b-name o-name n-name : ℕ} (names : List ℕ) → length names ≡ n-names → (payloads : List ℕ) → length payloads ≡ n-payloads → (entries : List RecordEntry) → length entries ≡ n-entries → Room Entry.the-row n-entries → (table : List ℕ) → length table ≡ n-table → (name : List ℕ) → length name ≡ n-name →
+    pub positions! : K → FmC 𝓤 H (W .laws) C → Triple 𝓤 (C #asking·positions) (PositionsSays 𝓤 H A mem run) → {κ-names : Lft} {s-names : Share} {γ-names : GName} {b-names o-names n-names : ℕ} {κ-payloads : Lft} {s-payloads : Share} {γ-payloads : GName} {b-payloads o-payloads n-payloads : ℕ} {κ-entries : Lft} {s-entries : Share} {γ-entries : GName} {b-entries o-entries n-entries : ℕ} {κ-table : Lft} {s-table : Share} {γ-table : GName} {b-table o-table n-table : ℕ} {κ-name : Lft} {s-name : Share} {γ-name : GName} {b-name o-name n-name : ℕ} (names : List ℕ) → length names ≡ n-names → (payloads : List ℕ) → length payloads ≡ n-payloads → (entries : List RecordEntry) → length entries ≡ n-entries → Room Entry.the-row n-entries → (table : List ℕ) → length table ≡ n-table → (name : List ℕ) → length name ≡ n-name →
         ((j : Item 𝓤) → Opds K W (j ∷ Γ) E xs (slice u8 κ-names s-names γ-names b-names o-names n-names ∷ slice u8 κ-payloads s-payloads γ-payloads b-payloads o-payloads n-payloads ∷ slice Entry.the-row κ-entries s-entries γ-entries b-entries o-entries n-entries ∷ slice u64 κ-table s-table γ-table b-table o-table n-table ∷ slice u8 κ-name s-name γ-name b-name o-name n-name ∷ []))
         → ((r : PositionsAnswer) → IsPositionsAnswer r → PositionsKept (memory names payloads entries table) name r → Seq K W (‵ (HoldShr u8 κ-names s-names γ-names b-names o-names n-names names) ∷ ‵ (HoldShr u8 κ-payloads s-payloads γ-payloads b-payloads o-payloads n-payloads payloads) ∷ ‵ (Hold Entry.the-row κ-entries s-entries γ-entries b-entries o-entries n-entries entries) ∷ ‵ (HoldShr u64 κ-table s-table γ-table b-table o-table n-table table) ∷ ‵ (HoldShr u8 κ-name s-name γ-name b-name o-name n-name name) ∷ Γ) (lands C Λ E d (PsA′.lowered r) rest p))
-        → Seq K W (‵ (HoldShr u8 κ-names s-names γ-names b-names o-names n-names names) ∷ ‵ (HoldShr u8 κ-payloads s-payloads γ-payloads b-payloads o-payloads n-payloads payloads) ∷ ‵ (Hold Entry.the-row κ-entries s-entries γ-entries b-entries o-entries n-entries entries) ∷ ‵ (HoldShr u64 κ-table s-table γ-table b-table o-table n-table table) ∷ ‵ (HoldShr u8 κ-name s-name γ-name b-name o-name n-name name) ∷ Γ) (runs C Λ E (seq (call #multi-record-log·positions xs d) rest) p)
+        → Seq K W (‵ (HoldShr u8 κ-names s-names γ-names b-names o-names n-names names) ∷ ‵ (HoldShr u8 κ-payloads s-payloads γ-payloads b-payloads o-payloads n-payloads payloads) ∷ ‵ (Hold Entry.the-row κ-entries s-entries γ-entries b-entries o-entries n-entries entries) ∷ ‵ (HoldShr u64 κ-table s-table γ-table b-table o-table n-table table) ∷ ‵ (HoldShr u8 κ-name s-name γ-name b-name o-name n-name name) ∷ Γ) (runs C Λ E (seq (call #asking·positions xs d) rest) p)
     positions! t fm known {κ-names} {s-names} {γ-names} {b-names} {o-names} {n-names} {κ-payloads} {s-payloads} {γ-payloads} {b-payloads} {o-payloads} {n-payloads} {κ-entries} {s-entries} {γ-entries} {b-entries} {o-entries} {n-entries} {κ-table} {s-table} {γ-table} {b-table} {o-table} {n-table} {κ-name} {s-name} {γ-name} {b-name} {o-name} {n-name} names len-names payloads len-payloads entries len-entries room-entries table len-table name len-name opds k =
         fsplit t $ use1 W (‵ (ShrSlice (named 0) κ-names u8 .own (at-list u8 κ-names s-names γ-names b-names o-names n-names γ-names names) (slice u8 κ-names s-names γ-names b-names o-names n-names ∷ [])) ⊛ ‵ (ShrSlice (named 0) κ-names u8 .own (at-list u8 κ-names s-names γ-names b-names o-names n-names γ-names names) (slice u8 κ-names s-names γ-names b-names o-names n-names ∷ []))) (shr-slice-copy 𝓤 H A W (named 0) κ-names u8 .twice (at-list u8 κ-names s-names γ-names b-names o-names n-names γ-names names) (slice u8 κ-names s-names γ-names b-names o-names n-names ∷ [])) $ split t $
         move t (3 ∷ []) $ fsplit t $ use1 W (‵ (ShrSlice (named 0) κ-payloads u8 .own (at-list u8 κ-payloads s-payloads γ-payloads b-payloads o-payloads n-payloads γ-payloads payloads) (slice u8 κ-payloads s-payloads γ-payloads b-payloads o-payloads n-payloads ∷ [])) ⊛ ‵ (ShrSlice (named 0) κ-payloads u8 .own (at-list u8 κ-payloads s-payloads γ-payloads b-payloads o-payloads n-payloads γ-payloads payloads) (slice u8 κ-payloads s-payloads γ-payloads b-payloads o-payloads n-payloads ∷ []))) (shr-slice-copy 𝓤 H A W (named 0) κ-payloads u8 .twice (at-list u8 κ-payloads s-payloads γ-payloads b-payloads o-payloads n-payloads γ-payloads payloads) (slice u8 κ-payloads s-payloads γ-payloads b-payloads o-payloads n-payloads ∷ [])) $ split t $

@@ -60,9 +60,9 @@ use Rattle.packed.proofs.AskRules.{IsPositionsAnswer, PositionsSays, po
 use Rattle.packed.proofs.packing.unpack.Symbol as unpack-def
 use Rattle.packed.proofs.packing.unpack.Symbol.{name as #packed·packing·unpack}
 use Rattle.packed.proofs.packing.unpack.Met as unpack-thm
-use Rattle.multi_record_log.proofs.positions.Symbol as positions-call-def
-use Rattle.multi_record_log.proofs.positions.Symbol.{name as #multi-record-log·positions}
-use Rattle.multi_record_log.proofs.positions.Met as positions-call-thm
+use Rattle.asking.proofs.positions.Symbol as positions-call-def
+use Rattle.asking.proofs.positions.Symbol.{name as #asking·positions}
+use Rattle.asking.proofs.positions.Met as positions-call-thm
 use Rattle.packed.proofs.questions.positions.Key.{name as #packed·questions·positions}
 use Rattle.packed.proofs.questions.positions as positions
 use Rattle.packed.proofs.questions.positions.Statement as stated
@@ -104,7 +104,7 @@ module _ {M : Type 1} (𝓤 : URA M) (H : Heap 𝓤) (A : Atoms 𝓤) (W : Given
       nothing ! $ move ! (2 ∷ 0 ∷ []) $ join ! $ move ! (3 ∷ 0 ∷ []) $ join ! $ move ! (4 ∷ 0 ∷ []) $ join ! $ move ! (5 ∷ 0 ∷ []) $ join ! $ move ! (6 ∷ 0 ∷ []) $ join ! $ frame ! $ nothing ! $ move ! (1 ∷ 0 ∷ []) $ fjoin ! $ move ! (1 ∷ 0 ∷ []) $ fjoin ! $ move ! (1 ∷ 0 ∷ []) $ fjoin ! $ move ! (1 ∷ 0 ∷ []) $ fjoin ! $ move ! (1 ∷ 0 ∷ []) $ fjoin ! $
       owned ! PsA.the-row (Is PsA.the-row) (EL.makes PsA.the-type PsA′.the-plain 𝓤 H A) r _ r-is $ move ! (1 ∷ 0 ∷ []) $ done !
 
-  module _ (C : Calls 𝓤 H) (Λ : Loops 𝓤 H) (fm : FmC 𝓤 H (W .laws) C) (known-unpack : Triple 𝓤 (C #packed·packing·unpack) (UnpackSays 𝓤 H A mem run)) (known-positions : Triple 𝓤 (C #multi-record-log·positions) (PositionsSays 𝓤 H A mem run)) where
+  module _ (C : Calls 𝓤 H) (Λ : Loops 𝓤 H) (fm : FmC 𝓤 H (W .laws) C) (known-unpack : Triple 𝓤 (C #packed·packing·unpack) (UnpackSays 𝓤 H A mem run)) (known-positions : Triple 𝓤 (C #asking·positions) (PositionsSays 𝓤 H A mem run)) where
     walk : ent 𝓤 (onEntry 𝓤 H A positions.signature (κ-names, (κ-payloads, (κ-entries, (κ-table, (κ-name, tt))))) (s-names, (s-payloads, (s-entries, (s-table, (s-name, tt))))) a at) (WpFn 𝓤 H C Λ code.function args Post)
     walk =
         qed W ((‵ (flft κ-names s-names) ⊛ ‵ (flft κ-payloads s-payloads) ⊛ ‵ (flft κ-entries s-entries) ⊛ ‵ (flft κ-table s-table) ⊛ ‵ (flft κ-name s-name) ⊛ ‵ ftrue) ∷ ‵ (owns (ShrSlice (named 0) κ-names u8 ∷ ShrSlice (named 1) κ-payloads u8 ∷ ShrSlice (named 2) κ-entries u8 ∷ ShrSlice (named 3) κ-table u64 ∷ ShrSlice (named 4) κ-name u8 ∷ []) a at) ∷ []) ∵ enter ! C Λ code.function args _ $
@@ -134,7 +134,7 @@ module _ {M : Type 1} (𝓤 : URA M) (H : Heap 𝓤) (A : Atoms 𝓤) (W : Given
         move ! (0 ∷ 1 ∷ 4 ∷ 2 ∷ 3 ∷ []) $
         by ! (exits r r-is kept))))))))))))))))))
 
-module _ {M : Type 1} (𝓤 : URA M) (H : Heap 𝓤) (A : Atoms 𝓤) (W : Given 𝓤 H A) (mem : Memory → SProp 𝓤) (run : Routine → Fun 𝓤) (𝓣 : Tables 𝓤 H) (k-unpack : Triple 𝓤 (𝓣 .C #packed·packing·unpack) (UnpackSays 𝓤 H A mem run)) (k-positions : Triple 𝓤 (𝓣 .C #multi-record-log·positions) (PositionsSays 𝓤 H A mem run)) where
+module _ {M : Type 1} (𝓤 : URA M) (H : Heap 𝓤) (A : Atoms 𝓤) (W : Given 𝓤 H A) (mem : Memory → SProp 𝓤) (run : Routine → Fun 𝓤) (𝓣 : Tables 𝓤 H) (k-unpack : Triple 𝓤 (𝓣 .C #packed·packing·unpack) (UnpackSays 𝓤 H A mem run)) (k-positions : Triple 𝓤 (𝓣 .C #asking·positions) (PositionsSays 𝓤 H A mem run)) where
   positions-walks : Walks 𝓤 H A positions.ended stayed (WpFn 𝓤 H (𝓣 .C) (𝓣 .Λ) code.function) (positions.clauses 𝓤 H A mem run)
   positions-walks = walked 𝓤 H A positions.ended stayed (positions.clauses 𝓤 H A mem run) (WpFn 𝓤 H (𝓣 .C) (𝓣 .Λ) code.function)
       (λ κs. (slice-vals, (slice-vals, (slice-vals, (slice-vals, (slice-vals, tt))))))
@@ -154,4 +154,4 @@ positions-spec 𝓤 H 𝓜 𝓖 𝓡 =
     (tables 𝓤 H 𝓜 𝓡 code.env .C) (tables 𝓤 H 𝓜 𝓡 code.env .Λ) #packed·questions·positions code.function (code.unfolded 𝓤 H 𝓜 𝓡)
     (positions-meets 𝓤 H (𝓖 .A) (givenOf 𝓤 H 𝓜 𝓖) (𝓜 .mem) (𝓡 .run) (tablesOf 𝓤 H 𝓜 (tables 𝓤 H 𝓜 𝓡 code.env))
     (cited 𝓤 H (UnpackSays 𝓤 H (𝓖 .A) (𝓜 .mem) (𝓡 .run)) 𝓜 𝓡 code.env #packed·packing·unpack unpack-def.routine code.calls-packed·packing·unpack (unpack-thm.met 𝓤 H 𝓜 𝓖 𝓡))
-    (cited 𝓤 H (PositionsSays 𝓤 H (𝓖 .A) (𝓜 .mem) (𝓡 .run)) 𝓜 𝓡 code.env #multi-record-log·positions positions-call-def.routine code.calls-multi-record-log·positions (positions-call-thm.met 𝓤 H 𝓜 𝓖 𝓡)))
+    (cited 𝓤 H (PositionsSays 𝓤 H (𝓖 .A) (𝓜 .mem) (𝓡 .run)) 𝓜 𝓡 code.env #asking·positions positions-call-def.routine code.calls-asking·positions (positions-call-thm.met 𝓤 H 𝓜 𝓖 𝓡)))

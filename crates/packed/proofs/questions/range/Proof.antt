@@ -66,9 +66,9 @@ use Rattle.packed.proofs.AskRules.{IsRangeAnswer, IsLower, IsUpper, Ran
 use Rattle.packed.proofs.packing.unpack.Symbol as unpack-def
 use Rattle.packed.proofs.packing.unpack.Symbol.{name as #packed·packing·unpack}
 use Rattle.packed.proofs.packing.unpack.Met as unpack-thm
-use Rattle.multi_record_log.proofs.range_at.Symbol as range-call-def
-use Rattle.multi_record_log.proofs.range_at.Symbol.{name as #multi-record-log·range-at}
-use Rattle.multi_record_log.proofs.range_at.Met as range-call-thm
+use Rattle.asking.proofs.range_at.Symbol as range-call-def
+use Rattle.asking.proofs.range_at.Symbol.{name as #asking·range-at}
+use Rattle.asking.proofs.range_at.Met as range-call-thm
 use Rattle.packed.proofs.questions.range.Key.{name as #packed·questions·range}
 use Rattle.packed.proofs.questions.range as range
 use Rattle.packed.proofs.questions.range.Statement as stated
@@ -116,7 +116,7 @@ module _ {M : Type 1} (𝓤 : URA M) (H : Heap 𝓤) (A : Atoms 𝓤) (W : Given
       nothing ! $ move ! (2 ∷ 0 ∷ []) $ join ! $ move ! (3 ∷ 0 ∷ []) $ join ! $ move ! (4 ∷ 0 ∷ []) $ join ! $ move ! (5 ∷ 0 ∷ []) $ join ! $ move ! (6 ∷ 0 ∷ []) $ join ! $ frame ! $ nothing ! $ owned ! Upp.the-row (Is Upp.the-row) (EL.makes Upp.the-type Upp′.the-plain 𝓤 H A) upper _ upper-is $ fjoin ! $ owned ! Low.the-row (Is Low.the-row) (EL.makes Low.the-type Low′.the-plain 𝓤 H A) lower _ lower-is $ fjoin ! $ move ! (1 ∷ 0 ∷ []) $ fjoin ! $ move ! (1 ∷ 0 ∷ []) $ fjoin ! $ move ! (1 ∷ 0 ∷ []) $ fjoin ! $ move ! (1 ∷ 0 ∷ []) $ fjoin ! $ move ! (1 ∷ 0 ∷ []) $ fjoin ! $
       owned ! RgA.the-row (Is RgA.the-row) (EL.makes RgA.the-type RgA′.the-plain 𝓤 H A) r _ r-is $ move ! (1 ∷ 0 ∷ []) $ done !
 
-  module _ (C : Calls 𝓤 H) (Λ : Loops 𝓤 H) (fm : FmC 𝓤 H (W .laws) C) (known-unpack : Triple 𝓤 (C #packed·packing·unpack) (UnpackSays 𝓤 H A mem run)) (known-range : Triple 𝓤 (C #multi-record-log·range-at) (RangeSays 𝓤 H A mem run)) where
+  module _ (C : Calls 𝓤 H) (Λ : Loops 𝓤 H) (fm : FmC 𝓤 H (W .laws) C) (known-unpack : Triple 𝓤 (C #packed·packing·unpack) (UnpackSays 𝓤 H A mem run)) (known-range : Triple 𝓤 (C #asking·range-at) (RangeSays 𝓤 H A mem run)) where
     walk : ent 𝓤 (onEntry 𝓤 H A range.signature (κ-names, (κ-payloads, (κ-entries, (κ-table, (κ-name, tt))))) (s-names, (s-payloads, (s-entries, (s-table, (s-name, tt))))) a at) (WpFn 𝓤 H C Λ code.function args Post)
     walk =
         qed W ((‵ (flft κ-names s-names) ⊛ ‵ (flft κ-payloads s-payloads) ⊛ ‵ (flft κ-entries s-entries) ⊛ ‵ (flft κ-table s-table) ⊛ ‵ (flft κ-name s-name) ⊛ ‵ ftrue) ∷ ‵ (owns (ShrSlice (named 0) κ-names u8 ∷ ShrSlice (named 1) κ-payloads u8 ∷ ShrSlice (named 2) κ-entries u8 ∷ ShrSlice (named 3) κ-table u64 ∷ ShrSlice (named 4) κ-name u8 ∷ Low.the-row ∷ Upp.the-row ∷ []) a at) ∷ []) ∵ enter ! C Λ code.function args _ $
@@ -146,7 +146,7 @@ module _ {M : Type 1} (𝓤 : URA M) (H : Heap 𝓤) (A : Atoms 𝓤) (W : Given
         move ! (0 ∷ 1 ∷ 4 ∷ 2 ∷ 3 ∷ []) $
         by ! (exits r r-is kept))))))))))))))))))))
 
-module _ {M : Type 1} (𝓤 : URA M) (H : Heap 𝓤) (A : Atoms 𝓤) (W : Given 𝓤 H A) (mem : Memory → SProp 𝓤) (run : Routine → Fun 𝓤) (𝓣 : Tables 𝓤 H) (k-unpack : Triple 𝓤 (𝓣 .C #packed·packing·unpack) (UnpackSays 𝓤 H A mem run)) (k-range : Triple 𝓤 (𝓣 .C #multi-record-log·range-at) (RangeSays 𝓤 H A mem run)) where
+module _ {M : Type 1} (𝓤 : URA M) (H : Heap 𝓤) (A : Atoms 𝓤) (W : Given 𝓤 H A) (mem : Memory → SProp 𝓤) (run : Routine → Fun 𝓤) (𝓣 : Tables 𝓤 H) (k-unpack : Triple 𝓤 (𝓣 .C #packed·packing·unpack) (UnpackSays 𝓤 H A mem run)) (k-range : Triple 𝓤 (𝓣 .C #asking·range-at) (RangeSays 𝓤 H A mem run)) where
   range-walks : Walks 𝓤 H A range.ended stayed (WpFn 𝓤 H (𝓣 .C) (𝓣 .Λ) code.function) (range.clauses 𝓤 H A mem run)
   range-walks = walked 𝓤 H A range.ended stayed (range.clauses 𝓤 H A mem run) (WpFn 𝓤 H (𝓣 .C) (𝓣 .Λ) code.function)
       (λ κs. (slice-vals, (slice-vals, (slice-vals, (slice-vals, (slice-vals, ((λ x. Low′.lowered x ∷ []), ((λ x. Upp′.lowered x ∷ []), tt))))))))
@@ -166,4 +166,4 @@ range-spec 𝓤 H 𝓜 𝓖 𝓡 =
     (tables 𝓤 H 𝓜 𝓡 code.env .C) (tables 𝓤 H 𝓜 𝓡 code.env .Λ) #packed·questions·range code.function (code.unfolded 𝓤 H 𝓜 𝓡)
     (range-meets 𝓤 H (𝓖 .A) (givenOf 𝓤 H 𝓜 𝓖) (𝓜 .mem) (𝓡 .run) (tablesOf 𝓤 H 𝓜 (tables 𝓤 H 𝓜 𝓡 code.env))
     (cited 𝓤 H (UnpackSays 𝓤 H (𝓖 .A) (𝓜 .mem) (𝓡 .run)) 𝓜 𝓡 code.env #packed·packing·unpack unpack-def.routine code.calls-packed·packing·unpack (unpack-thm.met 𝓤 H 𝓜 𝓖 𝓡))
-    (cited 𝓤 H (RangeSays 𝓤 H (𝓖 .A) (𝓜 .mem) (𝓡 .run)) 𝓜 𝓡 code.env #multi-record-log·range-at range-call-def.routine code.calls-multi-record-log·range-at (range-call-thm.met 𝓤 H 𝓜 𝓖 𝓡)))
+    (cited 𝓤 H (RangeSays 𝓤 H (𝓖 .A) (𝓜 .mem) (𝓡 .run)) 𝓜 𝓡 code.env #asking·range-at range-call-def.routine code.calls-asking·range-at (range-call-thm.met 𝓤 H 𝓜 𝓖 𝓡)))

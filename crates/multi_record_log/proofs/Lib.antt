@@ -1,4 +1,0 @@
-pub mod Typed
-pub mod CallRules
-pub mod QuestionRules
-pub mod QuestionsKept
