@@ -1,5 +1,3 @@
-pub mod Refusing
-pub mod Decides
 pub mod Building
 pub mod Planned
 pub mod Answering

@@ -1,4 +1,3 @@
-pub mod Looked
 pub mod Plan
 pub mod Answers
 pub mod Decided
