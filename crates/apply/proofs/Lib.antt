@@ -3,3 +3,4 @@ pub mod DoingRules
 pub mod Pushing
 pub mod ApplyRule
 pub mod ByteSlices
+pub mod ArrangedRules

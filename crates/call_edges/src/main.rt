@@ -5,8 +5,8 @@
 // what is done, the byte and the length of a name, a position, a number of payloads, and a number of bytes; `value` says which number a byte stands for.
 // How: '.' a call; '=' a call, and whether it leaves all lent memory as it was; 'l' and 's' the same with a log of 32,767 bytes, with a scratch of 11; '~'
 // anything else. Calls: c create, d delete, t truncate, a append, g append at the position; the first payload has all bytes, the others are empty.
-use plan::AppendAnswer;
 use deciding::AtPosition;
+use plan::AppendAnswer;
 use plan::CreateAnswer;
 use plan::DeleteAnswer;
 use plan::PositionsAnswer;

@@ -48,8 +48,9 @@ use Rattle.listing.proofs.Cursor as Cur
 use Rattle.listing.proofs.Cursor.Laws as Cur′
 use Rattle.listing.proofs.Listed as Lst
 use Rattle.listing.proofs.Listed.Laws as Lst′
-use Rattle.mem.proofs.Hold.{Hold, HoldShr, Lent, at-list, slice, lends, back}
-use Rattle.mem.proofs.CallRules.{IsRecordEntry, IsHeld, calls-kept}
+use Rattle.record_table.proofs.Hold.{Hold, HoldShr, Lent, at-list, slice, lends, back}
+use Rattle.record_table.proofs.Typed.{IsRecordEntry, IsHeld}
+use Rattle.record_table.proofs.Calls.{calls-kept}
 use Rattle.listing.proofs.text.count_entry as count-entry
 use Rattle.listing.proofs.text.count_entry.Symbol.{name as #listing·text·count-entry}
 use Rattle.listing.proofs.passes.held_of as held-of

@@ -39,8 +39,8 @@ use Rattle.listing.specs.Listing.{LogFits, listing, refusal}
 use Rattle.queues.proofs.RecordEntry as Entry
 use Rattle.listing.proofs.Listed as Lst
 use Rattle.listing.proofs.Listed.Laws as Lst′
-use Rattle.mem.proofs.Hold.{Hold, Lent, Shared, at-list, slice, lends, back, shares, unshared}
-use Rattle.mem.proofs.CallRules.{calls-kept}
+use Rattle.record_table.proofs.Hold.{Hold, Lent, Shared, at-list, slice, lends, back, shares, unshared}
+use Rattle.record_table.proofs.Calls.{calls-kept}
 use Rattle.listing.proofs.CallRules.{IsListed}
 use Rattle.listing.proofs.passes.list as list
 use Rattle.listing.proofs.passes.list.Symbol.{name as #listing·passes·list}

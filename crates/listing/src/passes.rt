@@ -16,8 +16,8 @@ use crate::text::entry_line;
 use crate::text::past_queue;
 use crate::text::queues_line;
 use crate::text::row_line;
-use mem::entries::entry_at;
 use queues::RecordEntry;
+use record_table::entry_at;
 use tables::table::held;
 
 // How many of the first entries are of this queue.

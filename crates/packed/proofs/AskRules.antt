@@ -31,8 +31,8 @@ use denote.Triple.Clauses.{ensured, lasts}
 use denote.Triple.Spec.{tripleOf}
 use Rattle.queues.specs.declared.RecordEntry.{RecordEntry}
 use Rattle.queues.proofs.RecordEntry as Entry
-use Rattle.mem.proofs.Hold.{Hold, HoldShr, Shared, at-list, slice, shares, unshared}
-use Rattle.mem.proofs.CallRules.{calls-kept}
+use Rattle.record_table.proofs.Hold.{Hold, HoldShr, Shared, at-list, slice, shares, unshared}
+use Rattle.record_table.proofs.Calls.{calls-kept}
 use Rattle.plan.specs.declared.RangeAnswer.{RangeAnswer}
 use Rattle.plan.proofs.RangeAnswer as RgA
 use Rattle.plan.proofs.RangeAnswer.Laws as RgA′

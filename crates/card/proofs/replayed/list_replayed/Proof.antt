@@ -58,8 +58,8 @@ use Rattle.queues.specs.Layout.{memory}
 use Rattle.calls.specs.Refusals.{logRefused}
 use Rattle.listing.specs.Writing.{written, listed}
 use Rattle.card.specs.Kept.{numbersOf, closedAnswer, closedText, blanks, lentTo, CardKept}
-use Rattle.mem.proofs.Hold.{Hold, HoldShr}
-use Rattle.mem.proofs.Local.{lends-array, array-back}
+use Rattle.record_table.proofs.Hold.{Hold, HoldShr}
+use Rattle.record_table.proofs.Local.{lends-array, array-back}
 use Rattle.listing.proofs.FacadeRules.{ListSays, list! }
 use Rattle.card.proofs.OwnTable.{made, is-blank, is-made, blanks-length, room-records, big-lit}
 use Rattle.card.proofs.Between.{shownIn, may-list, card-kept}

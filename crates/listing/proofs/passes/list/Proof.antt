@@ -54,7 +54,7 @@ use Rattle.listing.proofs.Cursor as Cur
 use Rattle.listing.proofs.Cursor.Laws as Cur′
 use Rattle.listing.proofs.Listed as Lst
 use Rattle.listing.proofs.Listed.Laws as Lst′
-use Rattle.mem.proofs.Hold.{Hold, HoldShr}
+use Rattle.record_table.proofs.Hold.{Hold, HoldShr}
 use Rattle.listing.proofs.CallRules.{IsListed, HeldSays, held!, QueuesLineSays, queues-line!, QueueLinesSays, queue-lines!, EndLinesSays, end-lines! }
 use Rattle.tables.proofs.table.held.Symbol as held-def
 use Rattle.tables.proofs.table.held.Symbol.{name as #tables·table·held}

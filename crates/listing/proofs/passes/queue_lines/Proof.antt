@@ -49,8 +49,8 @@ use Rattle.listing.specs.Passes.{queuesTo, queuesAt, QueuesFit}
 use Rattle.queues.proofs.RecordEntry as Entry
 use Rattle.listing.proofs.Cursor as Cur
 use Rattle.listing.proofs.Cursor.Laws as Cur′
-use Rattle.mem.proofs.Hold.{Hold, HoldShr}
-use Rattle.mem.proofs.Loop.{tests}
+use Rattle.record_table.proofs.Hold.{Hold, HoldShr}
+use Rattle.record_table.proofs.Loop.{tests}
 use Rattle.listing.proofs.CallRules.{IsCursor, QueueTextSays, queue-text! }
 use Rattle.listing.proofs.passes.queue_text.Symbol as queue-text-def
 use Rattle.listing.proofs.passes.queue_text.Symbol.{name as #listing·passes·queue-text}

@@ -44,7 +44,7 @@ use Rattle.listing.specs.Passes.{rowLine, countTo, linesTo, recordsAt, Q
 use Rattle.queues.proofs.RecordEntry as Entry
 use Rattle.listing.proofs.Cursor as Cur
 use Rattle.listing.proofs.Cursor.Laws as Cur′
-use Rattle.mem.proofs.Hold.{Hold, HoldShr}
+use Rattle.record_table.proofs.Hold.{Hold, HoldShr}
 use Rattle.listing.proofs.CallRules.{IsCursor, HeldOfSays, held-of!, RowLineSays, row-line!, RecordLinesSays, record-lines!, PastQueueSays, past-queue! }
 use Rattle.listing.proofs.passes.held_of.Symbol as held-of-def
 use Rattle.listing.proofs.passes.held_of.Symbol.{name as #listing·passes·held-of}

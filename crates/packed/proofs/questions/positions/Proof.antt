@@ -49,8 +49,8 @@ use Rattle.plan.proofs.PositionsAnswer as PsA
 use Rattle.plan.proofs.PositionsAnswer.Laws as PsA′
 use Rattle.queues.specs.Layout.{memory}
 use Rattle.lent.specs.Contracts.{lent, PositionsKept}
-use Rattle.mem.proofs.Hold.{Hold, HoldShr}
-use Rattle.mem.proofs.Local.{lends-array, array-back}
+use Rattle.record_table.proofs.Hold.{Hold, HoldShr}
+use Rattle.record_table.proofs.Local.{lends-array, array-back}
 use Rattle.packed.specs.Packed.{bytesPacked, unpacked}
 use Rattle.packed.proofs.Laws.{length-unpacked}
 use Rattle.packed.proofs.Literal.{big-lit}

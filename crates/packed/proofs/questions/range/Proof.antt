@@ -55,8 +55,8 @@ use Rattle.queues.proofs.Upper as Upp
 use Rattle.queues.proofs.Upper.Laws as Upp′
 use Rattle.queues.specs.Layout.{memory}
 use Rattle.lent.specs.Contracts.{lent, RangeKept}
-use Rattle.mem.proofs.Hold.{Hold, HoldShr}
-use Rattle.mem.proofs.Local.{lends-array, array-back}
+use Rattle.record_table.proofs.Hold.{Hold, HoldShr}
+use Rattle.record_table.proofs.Local.{lends-array, array-back}
 use Rattle.packed.specs.Packed.{bytesPacked, unpacked}
 use Rattle.packed.proofs.Laws.{length-unpacked}
 use Rattle.packed.proofs.Literal.{big-lit}

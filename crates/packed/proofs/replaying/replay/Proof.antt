@@ -49,8 +49,8 @@ use Rattle.turn.proofs.ReplayAnswer as RpA
 use Rattle.turn.proofs.ReplayAnswer.Laws as RpA′
 use Rattle.queues.specs.Layout.{memory}
 use Rattle.lent.specs.Contracts.{lent, ReplayKept}
-use Rattle.mem.proofs.Hold.{Hold, HoldShr}
-use Rattle.mem.proofs.Local.{lends-array, array-back}
+use Rattle.record_table.proofs.Hold.{Hold, HoldShr}
+use Rattle.record_table.proofs.Local.{lends-array, array-back}
 use Rattle.packed.specs.Packed.{bytesPacked, packTo, unpacked}
 use Rattle.packed.proofs.Laws.{length-unpacked}
 use Rattle.packed.proofs.Known.{AllFit, hold-fits}
