@@ -4,18 +4,21 @@ use mathlib.Core.Path.{_≡_, refl, sym, ap, ap₂, subst, _∙_}
 use mathlib.Core.Logic.{inl, inr}
 use mathlib.Core.Bool.{Bool, true, false}
 use mathlib.Core.List.{List, []}
-use Prim.Native.Nat.{ℕ, zero, suc, _+_, _-_, _*_, _/_, _%_, _≤_, _<_}
-use native.Mathlib.Nat.{add-zero, zero-add, add-suc, suc-add, le-of-suc-le-suc, not-suc-le-zero}
+use Prim.Native.Nat.{ℕ, zero, suc, _+_, _-_, _*_, _/_, _%_, _^_, _≤_, _<_}
+use native.Mathlib.Nat.{pow-suc, add-zero, zero-add, add-suc, suc-add, le-of-suc-le-suc, not-suc-le-zero}
+use native.Mathlib.Numerals.{add-one}
 use native.Mathlib.Omega.{arith}
 use borrow.Author.Tests.{ltb-true, ltb-false, eq-eqb, ne-eqb}
+use lib.Bits.{bitXor, xor-comm, xor-shifted}
 use lib.Dec.{ltb, eqb}
-use lib.ListN.{length, getD, set, length-set}
+use lib.ListN.{length, getD, set, length-set, length-replicate}
+use lib.Pow.{pow-mono, pow-pos}
 use lib.Seq.{getD-set-same, getD-set-other, ext-getD}
 use Rattle.slices.specs.Bytes.{zeros}
 use Rattle.crc32.specs.Crc.{run, bits, bitsOf}
-use Rattle.crc32.specs.Wide.{wideEntry, wideFrom, byteTable, wideTable, TableReady, holdsTable, filledBy, filled, Starts}
+use Rattle.crc32.specs.Wide.{wideEntry, wideFrom, byteTable, wideTable, TableReady, holdsTable, filledBy, filled, Starts, Grown}
 use Rattle.crc32.specs.Claims.{TableRule}
-use Rattle.crc32.proofs.Parts.{run-cons, run-nil, run-zeros-more}
+use Rattle.crc32.proofs.Parts.{run-cons, run-nil, run-linear, run-zeros-more}
 
 -- ---- an entry
 
@@ -40,6 +43,41 @@ later i h =
     let d : suc (suc ((i - 256) / 256)) ≡ suc (i / 256) = omega arith in
     let r : (i - 256) % 256 ≡ i % 256 = omega arith in
     run-zeros-more ((i - 256) % 256) (suc ((i - 256) / 256)) ∙ ap₂ (λ (n x : ℕ). run x (bits (zeros n))) d r
+
+-- within a part, the entry 2 ^ m places behind another of its first 2 ^ m is their sum with what bit m adds
+entry-in : (i x : ℕ) → i % 256 ≡ 0 → x < 256 → wideEntry (i + x) ≡ run x (bits (zeros (suc (i / 256))))
+unfolding wideEntry
+entry-in i x h l =
+    let d : suc ((i + x) / 256) ≡ suc (i / 256) = omega arith in
+    let r : (i + x) % 256 ≡ x = omega arith in
+    ap₂ (λ (n y : ℕ). run y (bits (zeros n))) d r
+
+pub half-part : (m : ℕ) → m < 8 → 2 ^ m * 2 ≤ 256
+half-part m h = omega (arith, pow-mono {i = suc m} {j = 8} h, pow-suc 2 m)
+
+pub pow-next : (m : ℕ) → 2 ^ (m + 1) ≡ 2 ^ m * 2
+pow-next m = ap (λ (k : ℕ). 2 ^ k) (add-one m) ∙ pow-suc 2 m
+
+pub bit-at : (m : ℕ) → m < 8 → (1 * 2 ^ m) % 2 ^ 64 ≡ 2 ^ m
+bit-at m h = omega (arith, half-part m h)
+
+pub entry-sum : (i m h j : ℕ) → i % 256 ≡ 0 → m < 8 → h ≡ 2 ^ m → j < h → bitXor (wideEntry (i + j)) (wideEntry (i + h)) ≡ wideEntry (i + h + j)
+entry-sum i m h j p l e g =
+    ap₂ bitXor (entry-in i j p (omega (arith, half-part m l))) (entry-in i h p (omega (arith, half-part m l, pow-pos m)))
+    ∙ ap (λ (n : ℕ). bitXor (run j (bits zs)) (run h (bits (zeros n)))) (sym (length-replicate (suc (i / 256)) 0))
+    ∙ sym (run-linear j h zs)
+    ∙ ap (λ (x : ℕ). run x (bits zs)) (xor-comm j h ∙ sum)
+    ∙ sym (entry-in i (h + j) p (omega (arith, half-part m l)))
+    ∙ ap wideEntry (omega arith)
+  where
+    zs : List ℕ
+    zs = zeros (suc (i / 256))
+
+    one : h ≡ 1 * 2 ^ m
+    one = omega arith
+
+    sum : bitXor h j ≡ h + j
+    sum = ap (λ (x : ℕ). bitXor x j) one ∙ xor-shifted 1 m j (omega arith) ∙ ap (λ (x : ℕ). x + j) (sym one)
 
 -- ---- the lists
 
@@ -85,20 +123,55 @@ one-more n v t h s e = record { long = omega (arith, length-set t n v); right = 
         let w : j ≡ n = omega arith in
         ap (λ (i : ℕ). getD (set t n v) i 0) w ∙ getD-set-same t n v 0 h ∙ e ∙ ap wideEntry (sym w)
 
--- the wide table, and what starts so and has no more entries
-pub wide-starts : Starts 4096 wideTable
-unfolding wideTable
-wide-starts =
+-- the first n entries by themselves
+pub from-start : (n : ℕ) → Starts n (wideFrom 0 n)
+from-start n = record { long = omega (arith, length-wideFrom 0 n); right = λ j g. getD-wideFrom 0 n j g ∙ ap wideEntry (zero-add j) }
+
+-- an array of n zeros that has become them
+pub made-starts : (n : ℕ) (t : List ℕ) → t ≡ wideFrom 0 (length (zeros n)) → Starts n t
+made-starts n t e = subst (Starts n) (sym (e ∙ ap (wideFrom 0) (length-replicate n 0))) (from-start n)
+
+-- none yet, one more, and more after some
+pub grown-none : (n : ℕ) (t : List ℕ) → Starts n t → Grown n t t
+grown-none n t s = record { same-length = refl; starts = s; rest = λ j g. refl }
+
+pub grown-next : (n v : ℕ) (t₀ t : List ℕ) → n < length t₀ → Grown n t₀ t → v ≡ wideEntry n → Grown (n + 1) t₀ (set t n v)
+grown-next n v t₀ t h g e =
     record {
-      long = omega (arith, length-wideFrom 0 4096);
-      right = λ j g. getD-wideFrom 0 4096 j g ∙ ap wideEntry (zero-add j);
+      same-length = length-set t n v ∙ g .same-length;
+      starts = one-more n v t (omega (arith, g .same-length)) (g .starts) e;
+      rest = λ j l. getD-set-other t n j v 0 (λ w. omega arith) ∙ g .rest j (omega arith);
     }
 
-pub whole : (t : List ℕ) → length t ≡ 4096 → Starts 4096 t → t ≡ wideTable
+pub grown-more : (m n : ℕ) (t₀ t u : List ℕ) → m ≤ n → Grown m t₀ t → Grown n t u → Grown n t₀ u
+grown-more m n t₀ t u h g k =
+    record {
+      same-length = k .same-length ∙ g .same-length;
+      starts = k .starts;
+      rest = λ j l. k .rest j l ∙ g .rest j (omega arith);
+    }
+
+-- one more, as the code's loop has it: the entry h places before, and x, which is what bit m adds
+pub grown-double : (i m h j x : ℕ) (t₀ t : List ℕ) → i % 256 ≡ 0 → m < 8 → h ≡ 2 ^ m → j < h → i + 256 ≤ length t₀ → x ≡ wideEntry (i + h)
+    → Grown (i + h + j) t₀ t → Grown (i + h + (j + 1)) t₀ (set t (i + h + j) (bitXor (getD t (i + j) 0) x))
+grown-double i m h j x t₀ t p l e g r q k =
+    let n : i + h + j + 1 ≡ i + h + (j + 1) = omega arith in
+    subst (λ (a : ℕ). Grown a t₀ (set t (i + h + j) (bitXor (getD t (i + j) 0) x))) n
+    (grown-next (i + h + j) _ t₀ t (omega (arith, half-part m l)) k
+    (ap₂ bitXor (k .starts .right (i + j) (omega (arith, pow-pos m))) q ∙ entry-sum i m h j p l e g))
+
+-- all of it
+pub grown-all : (t₀ t : List ℕ) → Grown (length t₀) t₀ t → t ≡ wideFrom 0 (length t₀)
+grown-all t₀ t g =
+    ext-getD 0 t (wideFrom 0 (length t₀)) (g .same-length ∙ sym (length-wideFrom 0 (length t₀)))
+    (λ i l.
+    let h : i < length t₀ = omega (arith, g .same-length) in
+    g .starts .right i h ∙ sym (from-start (length t₀) .right i h))
+
+-- the wide table
+pub wide-starts : Starts 4096 wideTable
 unfolding wideTable
-whole t h s =
-    ext-getD 0 t wideTable (h ∙ sym (length-wideFrom 0 4096))
-    (λ i g. s .right i (omega arith) ∙ sym (wide-starts .right i (omega arith)))
+wide-starts = from-start 4096
 
 -- ---- what a caller may lend
 
@@ -113,12 +186,11 @@ filled-wide t u h e = e ∙ ap (λ (b : Bool). filledBy b t) (eq-eqb (length t) 
 pub filled-ready : (t u : List ℕ) → length t ≡ 4096 → u ≡ filled t → TableReady u
 filled-ready t u h e = inr (filled-wide t u h e)
 
-pub filled-starts : (t u : List ℕ) → length t ≡ 4096 → u ≡ filled t → Starts 4096 u
-filled-starts t u h e = subst (Starts 4096) (sym (filled-wide t u h e)) wide-starts
-
 -- what filling answers and leaves
-pub filled-true : (t u : List ℕ) → length t ≡ 4096 → u ≡ wideTable → (true ≡ holdsTable (length t)) × (u ≡ filled t)
-filled-true t u h e = let q : true ≡ eqb (length t) 4096 = sym (eq-eqb (length t) 4096 h) in (q, e ∙ ap (λ (b : Bool). filledBy b t) q)
+pub filled-true : (t u : List ℕ) → length t ≡ 4096 → u ≡ wideFrom 0 (length t) → (true ≡ holdsTable (length t)) × (u ≡ filled t)
+unfolding wideTable
+filled-true t u h e =
+    let q : true ≡ eqb (length t) 4096 = sym (eq-eqb (length t) 4096 h) in (q, e ∙ ap (wideFrom 0) h ∙ ap (λ (b : Bool). filledBy b t) q)
 
 pub filled-false : (t : List ℕ) → (length t ≡ 4096 → ⊥) → (false ≡ holdsTable (length t)) × (t ≡ filled t)
 filled-false t h = let q : false ≡ eqb (length t) 4096 = sym (ne-eqb (length t) 4096 h) in (q, ap (λ (b : Bool). filledBy b t) q)

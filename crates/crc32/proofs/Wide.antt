@@ -44,9 +44,9 @@ by-table t c b s h =
 -- ---- a byte and what follows it
 
 -- as the code has it, by a wide table's part k
-pub share-entry : (t : List ℕ) (k c b : ℕ) → k < 16 → Starts 4096 t
+pub share-entry : (t : List ℕ) (k c b : ℕ) → Starts (k * 256 + 256) t
     → getD t (k * 256 + bitAnd (bitXor c b) 255) 0 ≡ run (bitXor c b % 256) (bits (zeros (k + 1)))
-share-entry t k c b h s =
+share-entry t k c b s =
     let l : bitAnd (bitXor c b) 255 < 256 = mask-lt (bitXor c b) 8 in
     s .right (k * 256 + bitAnd (bitXor c b) 255) (omega arith)
     ∙ entry-at k (bitAnd (bitXor c b) 255) l
@@ -132,6 +132,9 @@ parts-share c n m xs h =
 pub rest : (i : ℕ) (xs : List ℕ) → take (length xs - i) (drop i xs) ≡ drop i xs
 rest i xs = take-all (length xs - i) (drop i xs) (omega (arith, length-drop i xs))
 
+-- n bytes of it, lent as `&xs[i..i + n]`
 pub run-lent : (c i n : ℕ) (xs : List ℕ)
-    → run (run c (bits (take n (take (length xs - i) (drop i xs))))) (bits (drop (i + n) xs)) ≡ run c (bits (drop i xs))
-run-lent c i n xs = ap (λ (l : List ℕ). run (run c (bits (take n l))) (bits (drop (i + n) xs))) (rest i xs) ∙ run-some c i n xs
+    → run (run c (bits (take (i + n - i) (drop i xs)))) (bits (drop (i + n) xs)) ≡ run c (bits (drop i xs))
+run-lent c i n xs =
+    let e : i + n - i ≡ n = omega arith in
+    ap (λ (m : ℕ). run (run c (bits (take m (drop i xs)))) (bits (drop (i + n) xs))) e ∙ run-some c i n xs

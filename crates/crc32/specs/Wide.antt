@@ -46,3 +46,9 @@ filled t = filledBy (holdsTable (length t)) t
 pub record Starts (n : ℕ) (t : List ℕ) : Type 0 where
   pub long : n ≤ length t
   pub right : (j : ℕ) → j < n → getD t j 0 ≡ wideEntry j
+
+-- t₀ has become t, which starts with the wide table's first n entries and is t₀ behind them
+pub record Grown (n : ℕ) (t₀ t : List ℕ) : Type 0 where
+  pub same-length : length t ≡ length t₀
+  pub starts : Starts n t
+  pub rest : (j : ℕ) → n ≤ j → getD t j 0 ≡ getD t₀ j 0
