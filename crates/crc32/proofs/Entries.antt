@@ -44,7 +44,7 @@ later i h =
     let r : (i - 256) % 256 ≡ i % 256 = omega arith in
     run-zeros-more ((i - 256) % 256) (suc ((i - 256) / 256)) ∙ ap₂ (λ (n x : ℕ). run x (bits (zeros n))) d r
 
--- within a part, the entry 2 ^ m places behind another of its first 2 ^ m is their sum with what bit m adds
+-- an entry of the part at i, by its place in the part
 entry-in : (i x : ℕ) → i % 256 ≡ 0 → x < 256 → wideEntry (i + x) ≡ run x (bits (zeros (suc (i / 256))))
 unfolding wideEntry
 entry-in i x h l =
@@ -52,6 +52,7 @@ entry-in i x h l =
     let r : (i + x) % 256 ≡ x = omega arith in
     ap₂ (λ (n y : ℕ). run y (bits (zeros n))) d r
 
+-- for a bit m of a place: 2 ^ m twice fits a part, that is 2 ^ (m + 1), and the code's `1 << m` is 2 ^ m
 pub half-part : (m : ℕ) → m < 8 → 2 ^ m * 2 ≤ 256
 half-part m h = omega (arith, pow-mono {i = suc m} {j = 8} h, pow-suc 2 m)
 
@@ -61,6 +62,7 @@ pow-next m = ap (λ (k : ℕ). 2 ^ k) (add-one m) ∙ pow-suc 2 m
 pub bit-at : (m : ℕ) → m < 8 → (1 * 2 ^ m) % 2 ^ 64 ≡ 2 ^ m
 bit-at m h = omega (arith, half-part m h)
 
+-- in a part, the entry at h + j, for j below h = 2 ^ m, is the sum of those at j and at h
 pub entry-sum : (i m h j : ℕ) → i % 256 ≡ 0 → m < 8 → h ≡ 2 ^ m → j < h → bitXor (wideEntry (i + j)) (wideEntry (i + h)) ≡ wideEntry (i + h + j)
 entry-sum i m h j p l e g =
     ap₂ bitXor (entry-in i j p (omega (arith, half-part m l))) (entry-in i h p (omega (arith, half-part m l, pow-pos m)))
