@@ -5,31 +5,20 @@
 // what is done, the byte and the length of a name, a position, a number of payloads, and a number of bytes; `value` says which number a byte stands for.
 // How: '.' a call; '=' a call, and whether it leaves all lent memory as it was; 'l' and 's' the same with a log of 32,767 bytes, with a scratch of 11; '~'
 // anything else. Calls: c create, d delete, t truncate, a append, g append at the position; the first payload has all bytes, the others are empty.
+use answer_text::appended;
+use answer_text::created;
+use answer_text::deleted;
+use answer_text::refused;
+use answer_text::replayed;
+use answer_text::say;
+use answer_text::text;
+use answer_text::truncated;
 use deciding::AtPosition;
-use plan::AppendAnswer;
-use plan::CreateAnswer;
-use plan::DeleteAnswer;
-use plan::PositionsAnswer;
 use plan::RangeAnswer;
-use plan::TruncateAnswer;
 use queues::Lower;
 use queues::Upper;
-use turn::ReplayAnswer;
 ghost use Prim.Native.Nat.{_<_, _≤_};
 ghost use lib.ListN.{length};
-
-fn text(s: &[u8]) {
-    io::write_all(1, s);
-}
-
-fn say(what: &[u8], n: u64) {
-    io::write_all(1, what);
-    io::print_decimal(1, n);
-}
-
-fn refused(n: u64) {
-    say(b" refused ", n);
-}
 
 // A command of the list.
 struct Command {
@@ -62,10 +51,7 @@ fn create(
     table: &mut [u64; 196],
     name: &[u8],
 ) {
-    match packed::create(log, at, scratch, names, payloads, entries, table, name) {
-        CreateAnswer::Created { bytes } => say(b" created ", bytes as u64),
-        CreateAnswer::Refused(n) => refused(n),
-    }
+    created(packed::create(log, at, scratch, names, payloads, entries, table, name));
 }
 
 fn delete(
@@ -78,20 +64,7 @@ fn delete(
     table: &mut [u64; 196],
     name: &[u8],
 ) {
-    match packed::delete(log, at, scratch, names, payloads, entries, table, name) {
-        DeleteAnswer::Deleted { bytes } => say(b" deleted ", bytes as u64),
-        DeleteAnswer::Refused(n) => refused(n),
-    }
-}
-
-fn show_truncate(answer: TruncateAnswer) {
-    match answer {
-        TruncateAnswer::Truncated { evicted, bytes } => {
-            say(b" evicted ", evicted as u64);
-            say(b" bytes ", bytes as u64);
-        }
-        TruncateAnswer::Refused(n) => refused(n),
-    }
+    deleted(packed::delete(log, at, scratch, names, payloads, entries, table, name));
 }
 
 fn truncate(
@@ -116,18 +89,7 @@ fn truncate(
         name,
         c.position,
     );
-    show_truncate(answer);
-}
-
-fn show_append(answer: AppendAnswer) {
-    match answer {
-        AppendAnswer::Appended { last, bytes } => {
-            say(b" last ", last);
-            say(b" bytes ", bytes as u64);
-        }
-        AppendAnswer::Empty => text(b" empty"),
-        AppendAnswer::Refused(n) => refused(n),
-    }
+    truncated(answer);
 }
 
 // n payloads, up to 1,025, and b bytes, up to 32,768: the first payload has them all, the others are empty.
@@ -163,7 +125,7 @@ fn append(
                 &run[0..b],
                 &lens[0..n],
             );
-            show_append(answer);
+            appended(answer);
         }
     }
 }
@@ -176,13 +138,7 @@ fn positions(
     table: &[u64; 196],
     name: &[u8],
 ) {
-    match packed::positions(names, payloads, entries, table, name) {
-        PositionsAnswer::Positions { start, next } => {
-            say(b" start ", start);
-            say(b" next ", next);
-        }
-        PositionsAnswer::Refused(n) => refused(n),
-    }
+    answer_text::positions(packed::positions(names, payloads, entries, table, name));
 }
 
 // The first record of a queue behind a lower bound.
@@ -223,16 +179,6 @@ fn show_zero(scratch: &[u8; 33000]) {
     }
 }
 
-fn show_replay(answer: ReplayAnswer) {
-    match answer {
-        ReplayAnswer::Replayed { lost, resumed } => {
-            say(b" lost ", lost);
-            say(b" resumed ", resumed as u64);
-        }
-        ReplayAnswer::Refused(n) => refused(n),
-    }
-}
-
 fn replay(
     log: &[u8],
     scratch: &mut [u8],
@@ -242,7 +188,7 @@ fn replay(
     table: &mut [u64; 196],
 ) {
     let answer = packed::replay(log, scratch, names, payloads, entries, table);
-    show_replay(answer);
+    replayed(answer);
     say(b" queues ", table[0]);
 }
 

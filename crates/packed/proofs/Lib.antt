@@ -1,7 +1,4 @@
-pub mod Entries
-pub mod PackRules
-pub mod Laws
-pub mod Known
+pub mod Used
 pub mod WriteRules
 pub mod AskRules
 pub mod ReplayRules

@@ -1,5 +1,4 @@
 // The calls with the record table lent as bytes, for programs and for the exported entries: docs/LAYOUT.md says how the entries stand in them.
-mod packing;
 mod questions;
 mod replaying;
 mod writes;

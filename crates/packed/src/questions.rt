@@ -4,7 +4,7 @@ ghost use lib.ListN.{length};
 ghost use Rattle.queues.specs.Layout.{memory};
 ghost use Rattle.lent.specs.Contracts.{RangeKept, PositionsKept};
 ghost use Rattle.packed.specs.Packed.{bytesPacked, unpacked};
-use crate::packing::unpack;
+use packing::unpack;
 use plan::PositionsAnswer;
 use plan::RangeAnswer;
 use queues::Lower;
@@ -30,7 +30,7 @@ pub fn range(
         length: 0,
     };
     let mut records = [blank; 1024];
-    unpack(entries, &mut records, 1024);
+    unpack(entries, &mut records, table);
     multi_record_log::range_at(names, payloads, &records, table, name, lower, upper)
 }
 
@@ -51,6 +51,6 @@ pub fn positions(
         length: 0,
     };
     let mut records = [blank; 1024];
-    unpack(entries, &mut records, 1024);
+    unpack(entries, &mut records, table);
     multi_record_log::positions(names, payloads, &records, table, name)
 }

@@ -4,8 +4,8 @@ ghost use lib.ListN.{length};
 ghost use Rattle.queues.specs.Layout.{memory};
 ghost use Rattle.lent.specs.Contracts.{ReplayKept};
 ghost use Rattle.packed.specs.Packed.{bytesPacked, unpacked};
-use crate::packing::pack;
-use crate::packing::unpack;
+use packing::pack;
+use packing::unpack;
 use queues::RecordEntry;
 use turn::ReplayAnswer;
 
@@ -27,8 +27,8 @@ pub fn replay(
         length: 0,
     };
     let mut records = [blank; 1024];
-    unpack(entries, &mut records, 1024);
+    unpack(entries, &mut records, table);
     let answer = replays::replay(log, scratch, names, payloads, &mut records, table);
-    pack(&records, entries, 1024);
+    pack(&records, entries, table);
     answer
 }

@@ -1,0 +1,24 @@
+-- `exports::answers::tell_delete` meets its contract.
+-- Assumes nothing.
+use Rattle.exports.proofs.Telling.{delete-told, delete-refused}
+use borrow.Author.Needs.{needs}
+use Rattle.exports.proofs.answers.tell_delete.Statement.{statement}
+use Rattle.exports.proofs.answers.tell_delete.Tie as tie
+
+enum-known-answer : tie.Need-enum-known-answer
+enum-known-answer c = search needs
+
+enum-known-answer-2 : tie.Need-enum-known-answer-2
+enum-known-answer-2 c = search needs
+
+number-told-requires : tie.Need-number-told-requires
+number-told-requires c κs = search needs
+
+returns : tie.Need-returns
+returns c = delete-told _ _ (c .before .answer .given .1)
+
+returns-2 : tie.Need-returns-2
+returns-2 c = delete-refused _ _ _ (c .before .before .answer2 .given .1) (c .number-told .ensures)
+
+pub tell-delete-spec : {M : Type 1} → statement M
+tell-delete-spec = tie.close (tie.spec enum-known-answer enum-known-answer-2 number-told-requires returns returns-2)

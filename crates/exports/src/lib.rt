@@ -1,0 +1,24 @@
+// The exported entries, for C and Rust: include/mrecordlog.h says what each does. The lent tables are bytes of any sizes, and answers are numbers.
+mod answers;
+mod checksum;
+mod questions;
+mod reading;
+mod writes;
+
+// What a read tells: the refusal's number or 0, the kind of its answer, and a record's position and places in the scratch.
+pub struct ReadTold {
+    pub refusal: u64,
+    pub kind: u64,
+    pub position: u64,
+    pub name_start: usize,
+    pub name_len: usize,
+    pub items_start: usize,
+    pub items_len: usize,
+}
+
+// The reader as numbers.
+pub struct ReaderNumbers {
+    pub block: usize,
+    pub cursor: usize,
+    pub spoilt: u64,
+}

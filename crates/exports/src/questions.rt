@@ -1,0 +1,130 @@
+// The questions.
+ghost use mathlib.Core.Path.{_≡_};
+ghost use Rattle.plan.specs.Answers.{positionsNumbers};
+ghost use Rattle.sized.specs.Sized.{memoryIn};
+ghost use Rattle.exports.specs.Told.{lowerOf, upperOf, rangeTold, tellRange, positionsTold, tellPositions};
+ghost use Rattle.exports.specs.Exported.{RangeExported, PositionsExported};
+use crate::answers::number_told;
+use plan::PositionsAnswer;
+use plan::RangeAnswer;
+use queues::Lower;
+use queues::Upper;
+
+fn lower_bound(kind: u64, position: u64) -> Lower
+    ensures { λ r. ⌜ r ≡ lowerOf kind position ⌝ }
+{
+    if kind == 1 {
+        return Lower::From(position);
+    }
+    if kind == 2 {
+        return Lower::After(position);
+    }
+    Lower::Unbounded
+}
+
+fn upper_bound(kind: u64, position: u64) -> Upper
+    ensures { λ r. ⌜ r ≡ upperOf kind position ⌝ }
+{
+    if kind == 1 {
+        return Upper::Through(position);
+    }
+    if kind == 2 {
+        return Upper::Before(position);
+    }
+    Upper::Unbounded
+}
+
+fn tell_range(
+    answer: RangeAnswer,
+    found: &mut u64,
+    at: &mut u64,
+    from: &mut u64,
+    len: &mut u64,
+) -> u64
+    ensures { λ r. ⌜ rangeTold r (now (found .exit)) (now (at .exit)) (now (from .exit)) (now (len .exit)) ≡ tellRange answer ⌝ }
+{
+    match answer {
+        RangeAnswer::Record {
+            position,
+            start,
+            length,
+        } => {
+            *found = 1;
+            *at = position;
+            *from = start as u64;
+            *len = length as u64;
+            0
+        }
+        RangeAnswer::Nothing => {
+            *found = 0;
+            *at = 0;
+            *from = 0;
+            *len = 0;
+            0
+        }
+        RangeAnswer::Refused(number) => {
+            *found = 0;
+            *at = 0;
+            *from = 0;
+            *len = 0;
+            number
+        }
+    }
+}
+
+fn tell_positions(answer: PositionsAnswer, first: &mut u64, following: &mut u64) -> u64
+    ensures { λ r. ⌜ positionsTold r (now (first .exit)) (now (following .exit)) ≡ tellPositions (positionsNumbers answer) ⌝ }
+{
+    match answer {
+        PositionsAnswer::Positions { start, next } => {
+            *first = start;
+            *following = next;
+            0
+        }
+        PositionsAnswer::Refused(number) => {
+            *first = 0;
+            *following = 0;
+            number_told(number)
+        }
+    }
+}
+
+#[no_mangle]
+pub extern "C" fn mrecordlog_range(
+    names: &[u8],
+    payloads: &[u8],
+    entries: &[u8],
+    table: &[u8],
+    name: &[u8],
+    lower_kind: u64,
+    lower: u64,
+    upper_kind: u64,
+    upper: u64,
+    found: &mut u64,
+    position: &mut u64,
+    start: &mut u64,
+    length: &mut u64,
+) -> u64
+    ensures { λ r. ⌜ RangeExported (memoryIn (now (names .entry)) (now (payloads .entry)) (now (entries .entry)) (now (table .entry))) (now (name .entry)) (lowerOf «lower_kind» lower) (upperOf «upper_kind» upper) (rangeTold r (now (found .exit)) (now (position .exit)) (now (start .exit)) (now (length .exit))) ⌝ }
+{
+    let lo = lower_bound(lower_kind, lower);
+    let hi = upper_bound(upper_kind, upper);
+    let answer = sized::range(names, payloads, entries, table, name, lo, hi);
+    tell_range(answer, found, position, start, length)
+}
+
+#[no_mangle]
+pub extern "C" fn mrecordlog_positions(
+    names: &[u8],
+    payloads: &[u8],
+    entries: &[u8],
+    table: &[u8],
+    name: &[u8],
+    start: &mut u64,
+    next: &mut u64,
+) -> u64
+    ensures { λ r. ⌜ PositionsExported (memoryIn (now (names .entry)) (now (payloads .entry)) (now (entries .entry)) (now (table .entry))) (now (name .entry)) (positionsTold r (now (start .exit)) (now (next .exit))) ⌝ }
+{
+    let answer = sized::positions(names, payloads, entries, table, name);
+    tell_positions(answer, start, next)
+}

@@ -1,0 +1,64 @@
+-- `rust_answers::show_reads` is safe and ends.
+-- Assumes nothing.
+use mathlib.Core.Path.{_≡_, refl}
+use borrow.Author.Needs.{needs}
+use lib.ListN.{length}
+use Rattle.rust_answers.proofs.show_reads.Statement.{statement}
+use Rattle.rust_answers.proofs.show_reads.Tie as tie
+
+abbrev Inv-loop : tie.InvT-loop
+Inv-loop log scratch₀ reader₀ left₀ scratch reader left = length scratch ≡ 98304
+
+abbrev μ-loop : tie.MeasureT-loop
+μ-loop log scratch₀ reader₀ left₀ scratch reader left = left
+
+new-requires : tie.Need-new-requires Inv-loop μ-loop
+new-requires c κs = search needs
+
+loop-holds : tie.Need-loop-holds Inv-loop μ-loop
+loop-holds c = search needs
+
+slice-aggregate-read-step : tie.Need-slice-aggregate-read-step Inv-loop μ-loop
+slice-aggregate-read-step c = search needs
+
+read-step-requires : tie.Need-read-step-requires Inv-loop μ-loop
+read-step-requires c κs = search needs
+
+slice-aggregate-show-read : tie.Need-slice-aggregate-show-read Inv-loop μ-loop
+slice-aggregate-show-read c = search needs
+
+show-read-requires : tie.Need-show-read-requires Inv-loop μ-loop
+show-read-requires c κs = search needs
+
+returns : tie.Need-returns Inv-loop μ-loop
+returns c = search needs
+
+sub-left : tie.Need-sub-left Inv-loop μ-loop
+sub-left c = search needs
+
+loop-less : tie.Need-loop-less Inv-loop μ-loop
+loop-less c = search needs
+
+loop-again : tie.Need-loop-again Inv-loop μ-loop
+loop-again c = search needs
+
+returns-2 : tie.Need-returns-2 Inv-loop μ-loop
+returns-2 c = search needs
+
+pub show-reads-spec : {M : Type 1} → statement M
+show-reads-spec =
+    tie.close
+    (tie.spec
+    Inv-loop
+    μ-loop
+    new-requires
+    loop-holds
+    slice-aggregate-read-step
+    read-step-requires
+    slice-aggregate-show-read
+    show-read-requires
+    returns
+    sub-left
+    loop-less
+    loop-again
+    returns-2)

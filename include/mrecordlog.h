@@ -1,0 +1,102 @@
+/* The exported entries of the queue log. Each returns 0, or the number of its refusal (1 to 14, docs/DEFINITIONS.md); then all values that it
+ * gives by a pointer are 0. A slice is a pointer and its length; no two slices may overlap, and none may be null, also where its length is 0.
+ *
+ * Lent to each call: the log, the scratch, and the queue memory: names, payloads, the record table `entries` (24,576 bytes: 1,024 entries of
+ * 24 bytes) and the table of queues `table` (1,568 bytes: 196 words of 8 bytes). docs/LAYOUT.md gives the layout of both, and says when the memory is
+ * arranged (refusal 6). Tables of another length are not arranged; replay takes them as tables without room (refusal 12 where a queue is to be made).
+ * Queue memory of zeros holds no queues.
+ */
+#ifndef MRECORDLOG_H
+#define MRECORDLOG_H
+
+#include <stddef.h>
+#include <stdint.h>
+
+/* An empty queue with start 0. */
+uint64_t mrecordlog_create(uint8_t *log, size_t log_len, size_t *write_position,
+                           uint8_t *scratch, size_t scratch_len,
+                           uint8_t *names, size_t names_len,
+                           uint8_t *payloads, size_t payloads_len,
+                           uint8_t *entries, size_t entries_len,
+                           uint8_t *table, size_t table_len,
+                           const uint8_t *name, size_t name_len,
+                           uint64_t *bytes_written);
+
+/* A queue and its records taken away. */
+uint64_t mrecordlog_delete(uint8_t *log, size_t log_len, size_t *write_position,
+                           uint8_t *scratch, size_t scratch_len,
+                           uint8_t *names, size_t names_len,
+                           uint8_t *payloads, size_t payloads_len,
+                           uint8_t *entries, size_t entries_len,
+                           uint8_t *table, size_t table_len,
+                           const uint8_t *name, size_t name_len,
+                           uint64_t *bytes_written);
+
+/* The records of a queue up to and with a position evicted. */
+uint64_t mrecordlog_truncate(uint8_t *log, size_t log_len, size_t *write_position,
+                             uint8_t *scratch, size_t scratch_len,
+                             uint8_t *names, size_t names_len,
+                             uint8_t *payloads, size_t payloads_len,
+                             uint8_t *entries, size_t entries_len,
+                             uint8_t *table, size_t table_len,
+                             const uint8_t *name, size_t name_len,
+                             uint64_t through,
+                             uint64_t *evicted, uint64_t *bytes_written);
+
+/* Payloads behind the records of a queue: end to end in the run, each as long as its length says. named 0: no position is named, else `position` is.
+ * has_last 0: no payload took a position (the empty answer), else 1 and the last position. */
+uint64_t mrecordlog_append(uint8_t *log, size_t log_len, size_t *write_position,
+                           uint8_t *scratch, size_t scratch_len,
+                           uint8_t *names, size_t names_len,
+                           uint8_t *payloads, size_t payloads_len,
+                           uint8_t *entries, size_t entries_len,
+                           uint8_t *table, size_t table_len,
+                           const uint8_t *name, size_t name_len,
+                           uint64_t named, uint64_t position,
+                           const uint8_t *run, size_t run_len,
+                           const uint64_t *lens, size_t lens_len,
+                           uint64_t *has_last, uint64_t *last_position, uint64_t *bytes_written);
+
+/* The first record of a range of positions of a queue. lower_kind: 1 from, 2 after, else no bound; upper_kind: 1 through, 2 before, else no bound.
+ * found 1: its position, and its payload is payloads[start .. start + length]; found 0: none. */
+uint64_t mrecordlog_range(const uint8_t *names, size_t names_len,
+                          const uint8_t *payloads, size_t payloads_len,
+                          const uint8_t *entries, size_t entries_len,
+                          const uint8_t *table, size_t table_len,
+                          const uint8_t *name, size_t name_len,
+                          uint64_t lower_kind, uint64_t lower, uint64_t upper_kind, uint64_t upper,
+                          uint64_t *found, uint64_t *position, uint64_t *start, uint64_t *length);
+
+/* The start and the next position of a queue; the last position is next - 1, or none where next is 0. */
+uint64_t mrecordlog_positions(const uint8_t *names, size_t names_len,
+                              const uint8_t *payloads, size_t payloads_len,
+                              const uint8_t *entries, size_t entries_len,
+                              const uint8_t *table, size_t table_len,
+                              const uint8_t *name, size_t name_len,
+                              uint64_t *start, uint64_t *next);
+
+/* The queues that the records of the log give, from no queues whatever the queue memory holds. lost: the number of corruption answers; resumed: the place in
+ * the log where a writer resumes. */
+uint64_t mrecordlog_replay(const uint8_t *log, size_t log_len,
+                           uint8_t *scratch, size_t scratch_len,
+                           uint8_t *names, size_t names_len,
+                           uint8_t *payloads, size_t payloads_len,
+                           uint8_t *entries, size_t entries_len,
+                           uint8_t *table, size_t table_len,
+                           uint64_t *lost, uint64_t *resumed);
+
+/* One read. The reader is block, cursor and spoilt (0, or any other number for a spoilt block), all 0 when fresh. It moves on in place; a refusal leaves it as it was.
+ * kind: 0 end of log; 1 truncate, 2 touch, 3 delete, 4 append (the record's type byte), its position, where its name lies in the scratch, and for an append where its items
+ * lie there (8-byte position, 4-byte length, data, one behind the other); 5 wrong checksum, 6 unknown type, 7 length past the block, 8 a record that cannot be decoded:
+ * the corruption answers. Values that a kind has no use for are 0. */
+uint64_t mrecordlog_read(const uint8_t *log, size_t log_len,
+                         uint8_t *scratch, size_t scratch_len,
+                         size_t *block, size_t *cursor, uint64_t *spoilt,
+                         uint64_t *kind, uint64_t *position,
+                         uint64_t *name_start, uint64_t *name_len,
+                         uint64_t *items_start, uint64_t *items_len);
+
+/* The checksum of a frame: CRC-32 (IEEE 802.3) over its type byte, then its data. */
+uint32_t mrecordlog_checksum(uint8_t frame_type, const uint8_t *data, size_t data_len);
+
+#endif
