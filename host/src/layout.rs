@@ -1,0 +1,120 @@
+//! docs/LAYOUT.md: when lent queue memory is arranged, and which queues it means. The record table is 1,024 entries of 24 bytes, the table of queues 196 words.
+
+use crate::plain::{Queue, Queues, Reader, BLOCK, LAST};
+use crate::port::{Memory, ENTRIES, TABLE};
+
+fn word(bytes: &[u8], at: usize) -> u64 {
+    u64::from_le_bytes(bytes[8 * at..8 * at + 8].try_into().unwrap())
+}
+
+/// A row of the table: name length, start, next.
+fn row(memory: &Memory, k: usize) -> (u64, u64, u64) {
+    (word(&memory.table, 4 + 3 * k), word(&memory.table, 5 + 3 * k), word(&memory.table, 6 + 3 * k))
+}
+
+/// An entry: queue, position, length.
+fn entry(memory: &Memory, i: usize) -> (u64, u64, u64) {
+    (word(&memory.entries, 3 * i), word(&memory.entries, 3 * i + 1), word(&memory.entries, 3 * i + 2))
+}
+
+fn sum(lengths: impl Iterator<Item = u64>) -> u128 {
+    lengths.map(u128::from).sum()
+}
+
+/// The first of the 13 conditions that does not hold, 0 for a table of another length; none where the memory is arranged.
+pub fn fails(memory: &Memory) -> Option<u64> {
+    if memory.entries.len() != ENTRIES || memory.table.len() != TABLE {
+        return Some(0);
+    }
+    let [queues, names, records, payloads] = [0, 1, 2, 3].map(|k| word(&memory.table, k));
+    if queues > 64 {
+        return Some(1);
+    }
+    if queues > 0 && (TABLE as u64 / 8) < 4 + 3 * queues {
+        return Some(2);
+    }
+    if names > memory.names.len() as u64 || records > ENTRIES as u64 / 24 || payloads > memory.payloads.len() as u64 {
+        return Some(3);
+    }
+    let rows: Vec<_> = (0..queues as usize).map(|k| row(memory, k)).collect();
+    let entries: Vec<_> = (0..records as usize).map(|i| entry(memory, i)).collect();
+    if sum(rows.iter().map(|row| row.0)) != names as u128 {
+        return Some(4);
+    }
+    if sum(entries.iter().map(|entry| entry.2)) != payloads as u128 {
+        return Some(5);
+    }
+    if entries.iter().any(|entry| entry.0 >= queues) {
+        return Some(6);
+    }
+    let mut held: Vec<Vec<u64>> = vec![vec![]; rows.len()];
+    for entry in &entries {
+        held[entry.0 as usize].push(entry.1);
+    }
+    let next_holds = |(row, held): (&(u64, u64, u64), &Vec<u64>)| match held.last() {
+        Some(&last) => last.checked_add(1) == Some(row.2),
+        None => row.2 == row.1,
+    };
+    if !rows.iter().zip(&held).all(next_holds) {
+        return Some(7);
+    }
+    let mut at = 0;
+    let mut all = vec![];
+    for row in &rows {
+        all.push(&memory.names[at..at + row.0 as usize]);
+        at += row.0 as usize;
+    }
+    if all.iter().any(|name| name.len() > 65_535 || std::str::from_utf8(name).is_err()) {
+        return Some(8);
+    }
+    if all.windows(2).any(|two| two[0] >= two[1]) {
+        return Some(9);
+    }
+    let rises = |held: &Vec<u64>| held.windows(2).all(|two| two[0] < two[1]);
+    let from_start = |(row, held): (&(u64, u64, u64), &Vec<u64>)| held.first().is_none_or(|&first| first >= row.1);
+    if !held.iter().all(rises) || !rows.iter().zip(&held).all(from_start) {
+        return Some(11);
+    }
+    if entries.iter().any(|entry| entry.1 == LAST) {
+        return Some(12);
+    }
+    if rows.iter().zip(&held).any(|(row, held)| row.1 == 0 && held.first().is_some_and(|&first| first != 0)) {
+        return Some(13);
+    }
+    None
+}
+
+pub fn arranged(memory: &Memory) -> bool {
+    fails(memory).is_none()
+}
+
+/// The queues that arranged memory means.
+pub fn meaning(memory: &Memory) -> Queues {
+    let mut at = 0;
+    let mut named: Vec<(Vec<u8>, Queue)> = (0..word(&memory.table, 0) as usize)
+        .map(|k| {
+            let (len, start, next) = row(memory, k);
+            let name = memory.names[at..at + len as usize].to_vec();
+            at += len as usize;
+            (name, Queue { start, next, records: vec![] })
+        })
+        .collect();
+    let mut from = 0;
+    for i in 0..word(&memory.table, 2) as usize {
+        let (queue, position, len) = entry(memory, i);
+        let payload = memory.payloads[from..from + len as usize].to_vec();
+        from += len as usize;
+        named[queue as usize].1.records.push((position, payload));
+    }
+    named.into_iter().collect()
+}
+
+/// A reader relative to the log that is lent.
+pub fn reader_arranged(reader: &Reader, log: usize) -> bool {
+    reader.block < log / BLOCK && reader.cursor <= BLOCK
+}
+
+/// A write position relative to the log that is lent.
+pub fn place_arranged(place: usize, log: usize) -> bool {
+    place <= log / BLOCK * BLOCK
+}
