@@ -177,9 +177,12 @@ wide-starts = from-start 4096
 
 -- ---- what a caller may lend
 
+pub ready-wide : {t : List ℕ} → TableReady t → (length t ≡ 0 → ⊥) → t ≡ wideTable
+ready-wide (inl e) n = absurd (n (ap length e))
+ready-wide (inr e) n = e
+
 pub ready-starts : {t : List ℕ} → TableReady t → (length t ≡ 0 → ⊥) → Starts 4096 t
-ready-starts (inl e) n = absurd (n (ap length e))
-ready-starts (inr e) n = subst (Starts 4096) (sym e) wide-starts
+ready-starts r n = subst (Starts 4096) (sym (ready-wide r n)) wide-starts
 
 -- a slice of 4,096 entries, filled
 filled-wide : (t u : List ℕ) → length t ≡ 4096 → u ≡ filled t → u ≡ wideTable

@@ -66,7 +66,7 @@ unfolding bitsOf
 length-bitsOf zero n = refl
 length-bitsOf (suc k) n = ap suc (length-bitsOf k (n / 2))
 
-length-bits : (xs : List ℕ) → length (bits xs) ≡ 8 * length xs
+pub length-bits : (xs : List ℕ) → length (bits xs) ≡ 8 * length xs
 unfolding bits
 length-bits [] = refl
 length-bits (x ∷ xs) =

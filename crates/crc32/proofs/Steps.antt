@@ -85,7 +85,7 @@ unfoldable pub zeroSteps : ℕ → ℕ → ℕ
 zeroSteps zero c = c
 zeroSteps (suc k) c = zeroSteps k (step c false)
 
-step-linear : (a b : ℕ) → step (bitXor a b) false ≡ bitXor (step a false) (step b false)
+pub step-linear : (a b : ℕ) → step (bitXor a b) false ≡ bitXor (step a false) (step b false)
 unfolding step
 step-linear a b =
     ap₂ bitXor (xor-half a b) (ap feedback (odd-xor a b) ∙ feedback-differs (odd a) (odd b))
@@ -97,7 +97,7 @@ zeroSteps-linear zero a b = refl
 zeroSteps-linear (suc k) a b = ap (zeroSteps k) (step-linear a b) ∙ zeroSteps-linear k (step a false) (step b false)
 
 -- what stands above the k low bits is shifted down
-zeroSteps-shifted : (k h : ℕ) → zeroSteps k (h * 2 ^ k) ≡ h
+pub zeroSteps-shifted : (k h : ℕ) → zeroSteps k (h * 2 ^ k) ≡ h
 unfolding zeroSteps step
 zeroSteps-shifted zero h = omega arith
 zeroSteps-shifted (suc k) h =

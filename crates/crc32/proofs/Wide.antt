@@ -29,10 +29,12 @@ eight x =
     ∙ ap (bitXor (x / 256)) (sym (run-zeros (x % 256) (0 ∷ [])) ∙ sym (entry-low (x % 256) (mod-lt x (lit< tt))))
 
 -- the byte is added to the register first
-byte-in : (c b : ℕ) → b < 256 → run c (bitsOf 8 b) ≡ bitXor (bitXor c b / 256) (wideEntry (bitXor c b % 256))
+pub byte-steps : (c b : ℕ) → b < 256 → run c (bitsOf 8 b) ≡ zeroSteps 8 (bitXor c b)
 unfolding bitsOf
-byte-in c b h =
-    run-zeroSteps c (bitsOf 8 b) ∙ ap (λ (v : ℕ). zeroSteps 8 (bitXor c v)) (value-bitsOf 8 b h) ∙ eight (bitXor c b)
+byte-steps c b h = run-zeroSteps c (bitsOf 8 b) ∙ ap (λ (v : ℕ). zeroSteps 8 (bitXor c v)) (value-bitsOf 8 b h)
+
+byte-in : (c b : ℕ) → b < 256 → run c (bitsOf 8 b) ≡ bitXor (bitXor c b / 256) (wideEntry (bitXor c b % 256))
+byte-in c b h = byte-steps c b h ∙ eight (bitXor c b)
 
 -- as the code has it, by any table that starts with the byte table
 pub by-table : (t : List ℕ) (c b : ℕ) → Starts 256 t → b < 256
@@ -69,8 +71,16 @@ byte-share c b n bs h e =
     up : bitXor c b / 256 ≡ c / 256
     up = xor-shr c b 8 ∙ ap (bitXor (c / 256)) (div-eq-of-lt {n = b} {m = 256} h) ∙ xor-zero-r (c / 256)
 
+-- with nothing behind it
+pub byte-alone : (c b : ℕ) → b < 256 → bitXor (run (bitXor c b % 256) (bits (zeros 1))) (c / 2 ^ 8) ≡ run c (bitsOf 8 b)
+byte-alone c b h =
+    ap (bitXor (run (bitXor c b % 256) (bits (zeros 1)))) (sym (run-nil (c / 256)))
+    ∙ sym (byte-share c b 1 [] h refl)
+    ∙ run-cons c b []
+    ∙ run-nil (run c (bitsOf 8 b))
+
 -- a register of zero stays so through zero bytes
-still : run 0 (bitsOf 8 0) ≡ 0
+pub still : run 0 (bitsOf 8 0) ≡ 0
 unfolding run bitsOf step odd
 still = refl
 

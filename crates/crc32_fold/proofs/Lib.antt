@@ -1,0 +1,4 @@
+pub mod Sums
+pub mod Entered
+pub mod Folding
+pub mod Lent
