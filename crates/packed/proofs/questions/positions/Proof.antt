@@ -51,9 +51,10 @@ use Rattle.lent.specs.Contracts.{PositionsKept}
 use Rattle.record_table.proofs.Hold.{HoldShr}
 use Rattle.record_table.proofs.Local.{lends-array, array-back}
 use Rattle.packing.specs.Packed.{bytesPacked, unpackTo, unpacked, entriesUsed}
-use Rattle.packed.proofs.Literal.{big-lit}
-use Rattle.packed.proofs.OwnTable.{blanks, made, is-blank, is-made, blanks-length, room-records}
-use Rattle.packed.proofs.Used.{used-only, positions-moved}
+use Rattle.own_table.proofs.Literal.{big-lit}
+use Rattle.own_table.proofs.Blanks.{is-blank}
+use Rattle.own_table.proofs.Used.{positions-moved}
+use Rattle.packed.proofs.OwnTable.{blanks, made, is-made, blanks-length, room-records, used-only}
 use Rattle.packing.proofs.Entries.{used-whole}
 use Rattle.packing.proofs.PackRules.{UnpackSays, unpack-shared! }
 use Rattle.packed.proofs.AskRules.{IsPositionsAnswer, PositionsSays, positions! }

@@ -54,9 +54,9 @@ use Rattle.record_table.proofs.Local.{lends-array, array-back}
 use Rattle.packing.specs.Packed.{bytesPacked, unpackTo, packTo, unpacked, entriesUsed}
 use Rattle.packing.proofs.Entries.{used-whole}
 use Rattle.packing.proofs.Known.{AllFit, hold-fits}
-use Rattle.packed.proofs.Literal.{big-lit}
-use Rattle.packed.proofs.OwnTable.{blanks, made, is-blank, is-made, blanks-length, room-records}
-use Rattle.packed.proofs.Used.{replay-moved}
+use Rattle.own_table.proofs.Literal.{big-lit}
+use Rattle.own_table.proofs.Blanks.{is-blank}
+use Rattle.packed.proofs.OwnTable.{blanks, made, is-made, blanks-length, room-records, replay-moved}
 use Rattle.packing.proofs.PackRules.{UnpackSays, unpack!, PackSays, pack! }
 use Rattle.packed.proofs.ReplayRules.{IsReplayAnswer, ReplaySays, replay! }
 use Rattle.packing.proofs.unpack.Symbol as unpack-def
