@@ -1,6 +1,3 @@
-pub mod Used
-pub mod WriteRules
+pub mod OwnTable
 pub mod AskRules
 pub mod ReplayRules
-pub mod Literal
-pub mod OwnTable

@@ -1,4 +1,5 @@
 // The calls with both tables lent as bytes of any size, for the exported entries: docs/LAYOUT.md says how the tables stand in them.
+mod by_use;
 mod questions;
 mod replaying;
 mod writes;

@@ -51,9 +51,11 @@ use Rattle.lent.specs.Contracts.{PositionsKept}
 use Rattle.record_table.proofs.Hold.{HoldShr}
 use Rattle.record_table.proofs.Local.{lends-array, array-back}
 use Rattle.packing.specs.Packed.{bytesPacked, unpackTo, unpacked, entriesUsed}
-use Rattle.packed.proofs.Literal.{big-lit}
-use Rattle.packed.proofs.OwnTable.{blanks, made, is-blank, is-made, blanks-length, room-records}
-use Rattle.packed.proofs.Used.{used-only, positions-moved}
+use Rattle.own_table.proofs.Literal.{big-lit}
+use Rattle.own_table.proofs.Blanks.{is-blank}
+use Rattle.own_table.proofs.Used.{positions-moved}
+use Rattle.packed.proofs.OwnTable.{blanks, made, is-made, blanks-length, room-records, used-only}
+use Rattle.packing.proofs.Entries.{used-whole}
 use Rattle.packing.proofs.PackRules.{UnpackSays, unpack-shared! }
 use Rattle.packed.proofs.AskRules.{IsPositionsAnswer, PositionsSays, positions! }
 use Rattle.packing.proofs.unpack.Symbol as unpack-def
@@ -123,7 +125,7 @@ module _ {M : Type 1} (𝓤 : URA M) (H : Heap 𝓤) (A : Atoms 𝓤) (W : Given
         assigns ! (addr ! (from ! (stop !))) (from ! (stop !)) (init ! 13 refl (tt, tt)) $
         assigns ! (agg ! (and-then ! (load ! (from ! (stop !)) (look ! 13 refl)) (and-then ! (big-lit ! (record { fits = lit< tt })) (no-more !)))) (from ! (stop !)) (init ! 11 refl (tt, (tt, (record { fits = lit< tt }, tt)))) $
         move ! (4 ∷ 0 ∷ 5 ∷ []) $
-        unpack-shared! mem run ! fm known-unpack entries refl blanks blanks-length room-records table refl (blanks-length, need) (λ j. (and-then ! (load ! (from ! (stop !)) (look ! 22 refl)) (and-then ! (load ! (from ! (stop !)) (look ! 9 refl)) (and-then ! (load ! (from ! (stop !)) (look ! 20 refl)) (no-more !))))) (λ len-unpacked. land ! (from ! (stop !)) (init ! 15 refl (tt, tt)) $
+        unpack-shared! mem run ! fm known-unpack entries refl blanks blanks-length room-records table refl (used-whole table blanks-length, need) (λ j. (and-then ! (load ! (from ! (stop !)) (look ! 22 refl)) (and-then ! (load ! (from ! (stop !)) (look ! 9 refl)) (and-then ! (load ! (from ! (stop !)) (look ! 20 refl)) (no-more !))))) (λ len-unpacked. land ! (from ! (stop !)) (init ! 15 refl (tt, tt)) $
         move ! (0 ∷ 1 ∷ 3 ∷ 4 ∷ 5 ∷ 2 ∷ []) $
         assigns ! (addr ! (from ! (stop !))) (from ! (stop !)) (init ! 9 refl (tt, tt)) $
         assigns ! (agg ! (and-then ! (load ! (from ! (stop !)) (look ! 9 refl)) (and-then ! (big-lit ! (record { fits = lit< tt })) (no-more !)))) (from ! (stop !)) (init ! 7 refl (tt, (tt, (record { fits = lit< tt }, tt)))) $

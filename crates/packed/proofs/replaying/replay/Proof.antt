@@ -52,10 +52,11 @@ use Rattle.lent.specs.Contracts.{ReplayKept}
 use Rattle.record_table.proofs.Hold.{Hold, HoldShr}
 use Rattle.record_table.proofs.Local.{lends-array, array-back}
 use Rattle.packing.specs.Packed.{bytesPacked, unpackTo, packTo, unpacked, entriesUsed}
+use Rattle.packing.proofs.Entries.{used-whole}
 use Rattle.packing.proofs.Known.{AllFit, hold-fits}
-use Rattle.packed.proofs.Literal.{big-lit}
-use Rattle.packed.proofs.OwnTable.{blanks, made, is-blank, is-made, blanks-length, room-records}
-use Rattle.packed.proofs.Used.{replay-moved}
+use Rattle.own_table.proofs.Literal.{big-lit}
+use Rattle.own_table.proofs.Blanks.{is-blank}
+use Rattle.packed.proofs.OwnTable.{blanks, made, is-made, blanks-length, room-records, replay-moved}
 use Rattle.packing.proofs.PackRules.{UnpackSays, unpack!, PackSays, pack! }
 use Rattle.packed.proofs.ReplayRules.{IsReplayAnswer, ReplaySays, replay! }
 use Rattle.packing.proofs.unpack.Symbol as unpack-def
@@ -132,7 +133,7 @@ module _ {M : Type 1} (𝓤 : URA M) (H : Heap 𝓤) (A : Atoms 𝓤) (W : Given
         assigns ! (addr ! (from ! (fld ! refl (hop ! (look-in ! 59 (sub ! 0 refl (whole !))) (stop !))))) (from ! (stop !)) (init ! 42 refl (tt, tt)) $
         assigns ! (agg ! (and-then ! (load ! (from ! (stop !)) (look ! 42 refl)) (and-then ! (load ! (from ! (fld ! refl (stop !))) (look-in ! 59 (sub ! 1 refl (whole !)))) (no-more !)))) (from ! (stop !)) (init ! 40 refl (tt, (tt, (record { fits = room-table .0 }, tt)))) $
         move ! (6 ∷ 0 ∷ 7 ∷ []) $
-        unpack! mem run ! fm known-unpack entries refl room-entries blanks blanks-length room-records table refl room-table (blanks-length, need) (λ j. (and-then ! (load ! (from ! (stop !)) (look ! 46 refl)) (and-then ! (load ! (from ! (stop !)) (look ! 42 refl)) (and-then ! (load ! (from ! (stop !)) (look ! 38 refl)) (no-more !))))) (λ len-unpacked. land ! (from ! (stop !)) (init ! 52 refl (tt, tt)) $
+        unpack! mem run ! fm known-unpack entries refl room-entries blanks blanks-length room-records table refl room-table (used-whole table blanks-length, need) (λ j. (and-then ! (load ! (from ! (stop !)) (look ! 46 refl)) (and-then ! (load ! (from ! (stop !)) (look ! 42 refl)) (and-then ! (load ! (from ! (stop !)) (look ! 38 refl)) (no-more !))))) (λ len-unpacked. land ! (from ! (stop !)) (init ! 52 refl (tt, tt)) $
         move ! (0 ∷ 1 ∷ 3 ∷ 4 ∷ 5 ∷ 6 ∷ 7 ∷ 2 ∷ []) $
         assigns ! (addr ! (from ! (fld ! refl (hop ! (look-in ! 67 (sub ! 0 refl (whole !))) (stop !))))) (from ! (stop !)) (init ! 38 refl (tt, tt)) $
         assigns ! (agg ! (and-then ! (load ! (from ! (stop !)) (look ! 38 refl)) (and-then ! (load ! (from ! (fld ! refl (stop !))) (look-in ! 67 (sub ! 1 refl (whole !)))) (no-more !)))) (from ! (stop !)) (init ! 36 refl (tt, (tt, (record { fits = room-scratch .0 }, tt)))) $
@@ -156,7 +157,7 @@ module _ {M : Type 1} (𝓤 : URA M) (H : Heap 𝓤) (A : Atoms 𝓤) (W : Given
         assigns ! (addr ! (from ! (fld ! refl (hop ! (look-in ! 59 (sub ! 0 refl (whole !))) (stop !))))) (from ! (stop !)) (init ! 10 refl (tt, tt)) $
         assigns ! (agg ! (and-then ! (load ! (from ! (stop !)) (look ! 10 refl)) (and-then ! (load ! (from ! (fld ! refl (stop !))) (look-in ! 59 (sub ! 1 refl (whole !)))) (no-more !)))) (from ! (stop !)) (init ! 8 refl (tt, (tt, (record { fits = room-table .0 }, tt)))) $
         move ! (0 ∷ 6 ∷ 5 ∷ []) $
-        pack! mem run ! fm known-pack l-records len-records room-records entries refl room-entries l-table len-table room-table (len-records, need) (λ j. (and-then ! (load ! (from ! (stop !)) (look ! 14 refl)) (and-then ! (load ! (from ! (stop !)) (look ! 10 refl)) (and-then ! (load ! (from ! (stop !)) (look ! 6 refl)) (no-more !))))) (λ len-packed. land ! (from ! (stop !)) (store ! 52 refl (tt, tt)) $
+        pack! mem run ! fm known-pack l-records len-records room-records entries refl room-entries l-table len-table room-table (used-whole l-table len-records, need) (λ j. (and-then ! (load ! (from ! (stop !)) (look ! 14 refl)) (and-then ! (load ! (from ! (stop !)) (look ! 10 refl)) (and-then ! (load ! (from ! (stop !)) (look ! 6 refl)) (no-more !))))) (λ len-packed. land ! (from ! (stop !)) (store ! 52 refl (tt, tt)) $
         move ! (0 ∷ 1 ∷ 3 ∷ 4 ∷ 5 ∷ 6 ∷ 2 ∷ []) $
         assigns ! (of-opd ! (load ! (from ! (stop !)) (look ! 54 refl))) (from ! (stop !)) (init ! 71 refl (typed-RpA r r-is)) $
         -- the lifetime is ended, and the room of the table is back
