@@ -52,12 +52,14 @@ bits-append (x ∷ xs) ys = ap (λ (s : List Bool). bitsOf 8 x ++ s) (bits-appen
 pub parts-join : PartsJoin
 parts-join c xs ys = ap (run c) (bits-append xs ys) ∙ run-append c (bits xs) (bits ys)
 
+-- the first n bytes, and then the others
+pub two-parts : (c n : ℕ) (xs : List ℕ) → run (run c (bits (take n xs))) (bits (drop n xs)) ≡ run c (bits xs)
+two-parts c n xs = sym (parts-join c (take n xs) (drop n xs)) ∙ ap (λ (l : List ℕ). run c (bits l)) (take-append-drop n xs)
+
 -- the first n of the bytes that are left, and then the others
 pub run-some : (c i n : ℕ) (xs : List ℕ) → run (run c (bits (take n (drop i xs)))) (bits (drop (i + n) xs)) ≡ run c (bits (drop i xs))
 run-some c i n xs =
-    ap (λ (l : List ℕ). run (run c (bits (take n (drop i xs)))) (bits l)) (sym (drop-drop n i xs))
-    ∙ sym (parts-join c (take n (drop i xs)) (drop n (drop i xs)))
-    ∙ ap (λ (l : List ℕ). run c (bits l)) (take-append-drop n (drop i xs))
+    ap (λ (l : List ℕ). run (run c (bits (take n (drop i xs)))) (bits l)) (sym (drop-drop n i xs)) ∙ two-parts c n (drop i xs)
 
 -- ---- zero bytes
 
