@@ -1,3 +1,2 @@
-pub mod OwnTable
 pub mod AskRules
 pub mod ReplayRules

@@ -54,7 +54,7 @@ use Rattle.packing.specs.Packed.{bytesPacked, unpackTo, unpacked, entriesUsed}
 use Rattle.own_table.proofs.Literal.{big-lit}
 use Rattle.own_table.proofs.Blanks.{is-blank}
 use Rattle.own_table.proofs.Used.{positions-moved}
-use Rattle.packed.proofs.OwnTable.{blanks, made, is-made, blanks-length, room-records, used-only}
+use Rattle.own_table.proofs.Whole.{blanks, made, is-made, blanks-length, room-records, used-only}
 use Rattle.packing.proofs.Entries.{used-whole}
 use Rattle.packing.proofs.PackRules.{UnpackSays, unpack-shared! }
 use Rattle.packed.proofs.AskRules.{IsPositionsAnswer, PositionsSays, positions! }

@@ -56,7 +56,7 @@ use Rattle.packing.proofs.Entries.{used-whole}
 use Rattle.packing.proofs.Known.{AllFit, hold-fits}
 use Rattle.own_table.proofs.Literal.{big-lit}
 use Rattle.own_table.proofs.Blanks.{is-blank}
-use Rattle.packed.proofs.OwnTable.{blanks, made, is-made, blanks-length, room-records, replay-moved}
+use Rattle.own_table.proofs.Whole.{blanks, made, is-made, blanks-length, room-records, replay-moved}
 use Rattle.packing.proofs.PackRules.{UnpackSays, unpack!, PackSays, pack! }
 use Rattle.packed.proofs.ReplayRules.{IsReplayAnswer, ReplaySays, replay! }
 use Rattle.packing.proofs.unpack.Symbol as unpack-def
