@@ -129,10 +129,6 @@ one-more n v t h s e = record { long = omega (arith, length-set t n v); right = 
 pub from-start : (n : ℕ) → Starts n (wideFrom 0 n)
 from-start n = record { long = omega (arith, length-wideFrom 0 n); right = λ j g. getD-wideFrom 0 n j g ∙ ap wideEntry (zero-add j) }
 
--- an array of n zeros that has become them
-pub made-starts : (n : ℕ) (t : List ℕ) → t ≡ wideFrom 0 (length (zeros n)) → Starts n t
-made-starts n t e = subst (Starts n) (sym (e ∙ ap (wideFrom 0) (length-replicate n 0))) (from-start n)
-
 -- none yet, one more, and more after some
 pub grown-none : (n : ℕ) (t : List ℕ) → Starts n t → Grown n t t
 grown-none n t s = record { same-length = refl; starts = s; rest = λ j g. refl }

@@ -46,6 +46,11 @@ fn short(x: f64) -> String {
     format!("{x:.digits$}{unit}")
 }
 
+/// So many blocks, in words.
+fn counted(blocks: usize) -> String {
+    if blocks == 1 { "1 block".to_string() } else { format!("{blocks} blocks") }
+}
+
 /// Runs both sides by turns and prints a line of the table.
 fn line(what: &str, state: &str, mut port: impl FnMut() -> Timed, mut rust: impl FnMut() -> Timed) -> f64 {
     let (mut ours, mut theirs) = (vec![], vec![]);
@@ -176,7 +181,7 @@ fn replays(blocks: usize) -> f64 {
     let mut memory = Memory::new(64, 501 * 1000);
     line(
         "replay",
-        &format!("{blocks} blocks"),
+        &counted(blocks),
         || {
             let seconds = clock(|| {
                 for _ in 0..turns {
@@ -202,7 +207,7 @@ fn reads(blocks: usize) -> f64 {
     let mut scratch = vec![0; HEAD + ITEM + 1000];
     line(
         "read, to the end of log",
-        &format!("{blocks} blocks"),
+        &counted(blocks),
         || {
             let mut calls = 0;
             let seconds = clock(|| {
@@ -301,12 +306,13 @@ fn main() {
         let calls = if held == 1000 { 400_000 } else { 40_000 };
         line("truncate of all", &format!("{held} held, 16 B each"), || port_calls(16, calls, held).1, || rust_calls(16, calls, held).1);
     }
-    let times: Vec<f64> = [1, 64, 4096].into_iter().map(replays).collect();
+    let times: Vec<f64> = [1, 64, 1024, 4096].into_iter().map(replays).collect();
     for blocks in [1, 64, 4096] {
         reads(blocks);
     }
     [16, 64, 256, 1 << 10, 1 << 12, 32_761].into_iter().for_each(checksums);
     println!();
-    println!("replay, time of 4,096 blocks / time of 64 blocks: {:.1} (64 times the bytes)", times[2] / times[1]);
+    println!("replay, time of 4,096 blocks / time of 64 blocks: {:.1} (64 times the bytes)", times[3] / times[1]);
+    println!("replay, time of 4,096 blocks / time of 1,024 blocks: {:.2} (4 times the bytes)", times[3] / times[2]);
     [0, 16, 1000].into_iter().for_each(boundary);
 }
