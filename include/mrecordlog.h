@@ -1,10 +1,15 @@
 /* The exported entries of the queue log. Each returns 0, or the number of its refusal (1 to 14, docs/DEFINITIONS.md); then all values that it
  * gives by a pointer are 0. A slice is a pointer and its length; no two slices may overlap, and none may be null, also where its length is 0.
  *
- * Lent to each call: the log, the scratch, and the queue memory: names, payloads, the record table `entries` (24,576 bytes: 1,024 entries of
- * 24 bytes) and the table of queues `table` (1,568 bytes: 196 words of 8 bytes). docs/LAYOUT.md gives the layout of both, and says when the memory is
- * arranged (refusal 6). Tables of another length are not arranged; replay takes them as tables without room (refusal 12 where a queue is to be made).
- * Queue memory of zeros holds no queues.
+ * Lent to each call: the log, the scratch, and the queue memory: names, payloads, the record table `entries` and the table of queues `table`. Both tables may
+ * have any length. Of `entries` the whole entries of 24 bytes count, at most 1,024; of `table` the whole words of 8 bytes, at most 196, which are 4 and 3 for each
+ * queue; what lies behind them is never touched. A record, a queue, a name or a payload for which there is no room is refused 12. docs/LAYOUT.md gives the layout
+ * of both, and says when the memory is arranged (refusal 6): what replay or a call left, lent again unchanged, always is. Queue memory of zeros holds no queues.
+ *
+ * The numbers: 1 the log is under one block or over 4,096; 2 a name is over 65,535 bytes; 3 a name is not UTF-8; 4 position 2^64-1 is named; 5 over 1,024 payloads, or
+ * lengths that do not sum to the bytes given; 6 the memory, the reader or the write position is not arranged; 7 the name is held; 8 it is not held; 9 the position is
+ * past; 10 a payload would take position 2^64-1; 11 a record is longer than the scratch; 12 the queue memory is full; 13 the log is full; 14 replay meets a position
+ * that cannot be taken.
  */
 #ifndef MRECORDLOG_H
 #define MRECORDLOG_H

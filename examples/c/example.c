@@ -1,11 +1,11 @@
-/* 01's example through the C header: a queue "a", an append of "one" and an empty payload to one zeroed block, the records by range, and a replay of that log. */
+/* 01's example through the C header, in tables for one queue and eight records: a queue "a", an append of "one" and an empty payload to one zeroed block, the records by range, and a replay of that log. */
 #include <inttypes.h>
 #include <stdio.h>
 #include <string.h>
 
 #include "mrecordlog.h"
 
-enum { BLOCK = 32768, NAMES = 64, PAYLOADS = 1024, ENTRIES = 24576, TABLE = 1568, SCRATCH = 256 };
+enum { BLOCK = 32768, NAMES = 64, PAYLOADS = 1024, ENTRIES = 8 * 24, TABLE = (4 + 3) * 8, SCRATCH = 256 };
 
 static uint8_t block[BLOCK], scratch[SCRATCH], names[NAMES], payloads[PAYLOADS], entries[ENTRIES], table[TABLE];
 static const uint8_t name[] = {'a'};

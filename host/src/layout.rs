@@ -1,4 +1,5 @@
-//! docs/LAYOUT.md: when lent queue memory is arranged, and which queues it means. The record table is 1,024 entries of 24 bytes, the table of queues 196 words.
+//! docs/LAYOUT.md: when lent queue memory is arranged, and which queues it means. Of the record table the whole entries of 24 bytes count, at most 1,024, of the table
+//! of queues the whole words, at most 196; a word that is not there counts as 0.
 
 use crate::plain::{Queue, Queues, Reader, BLOCK, LAST};
 use crate::port::{Memory, ENTRIES, TABLE};
@@ -7,9 +8,37 @@ fn word(bytes: &[u8], at: usize) -> u64 {
     u64::from_le_bytes(bytes[8 * at..8 * at + 8].try_into().unwrap())
 }
 
+/// How many words of the table of queues count.
+pub fn words(memory: &Memory) -> usize {
+    (memory.table.len() / 8).min(TABLE / 8)
+}
+
+/// How many entries of the record table count.
+pub fn entries(memory: &Memory) -> usize {
+    (memory.entries.len() / 24).min(ENTRIES / 24)
+}
+
+/// How many queues the table of queues has room for.
+pub fn rows(memory: &Memory) -> usize {
+    (words(memory).saturating_sub(4) / 3).min(64)
+}
+
+/// The bytes of both tables that do not count: no call touches them.
+pub fn behind(memory: &Memory) -> (&[u8], &[u8]) {
+    (&memory.entries[24 * entries(memory)..], &memory.table[8 * words(memory)..])
+}
+
+fn table_word(memory: &Memory, at: usize) -> u64 {
+    if at < words(memory) {
+        word(&memory.table, at)
+    } else {
+        0
+    }
+}
+
 /// A row of the table: name length, start, next.
 fn row(memory: &Memory, k: usize) -> (u64, u64, u64) {
-    (word(&memory.table, 4 + 3 * k), word(&memory.table, 5 + 3 * k), word(&memory.table, 6 + 3 * k))
+    (table_word(memory, 4 + 3 * k), table_word(memory, 5 + 3 * k), table_word(memory, 6 + 3 * k))
 }
 
 /// An entry: queue, position, length.
@@ -21,19 +50,16 @@ fn sum(lengths: impl Iterator<Item = u64>) -> u128 {
     lengths.map(u128::from).sum()
 }
 
-/// The first of the 13 conditions that does not hold, 0 for a table of another length; none where the memory is arranged.
+/// The first of the 13 conditions that does not hold; none where the memory is arranged.
 pub fn fails(memory: &Memory) -> Option<u64> {
-    if memory.entries.len() != ENTRIES || memory.table.len() != TABLE {
-        return Some(0);
-    }
-    let [queues, names, records, payloads] = [0, 1, 2, 3].map(|k| word(&memory.table, k));
+    let [queues, names, records, payloads] = [0, 1, 2, 3].map(|k| table_word(memory, k));
     if queues > 64 {
         return Some(1);
     }
-    if queues > 0 && (TABLE as u64 / 8) < 4 + 3 * queues {
+    if queues > 0 && (words(memory) as u64) < 4 + 3 * queues {
         return Some(2);
     }
-    if names > memory.names.len() as u64 || records > ENTRIES as u64 / 24 || payloads > memory.payloads.len() as u64 {
+    if names > memory.names.len() as u64 || records > entries(memory) as u64 || payloads > memory.payloads.len() as u64 {
         return Some(3);
     }
     let rows: Vec<_> = (0..queues as usize).map(|k| row(memory, k)).collect();
@@ -91,7 +117,7 @@ pub fn arranged(memory: &Memory) -> bool {
 /// The queues that arranged memory means.
 pub fn meaning(memory: &Memory) -> Queues {
     let mut at = 0;
-    let mut named: Vec<(Vec<u8>, Queue)> = (0..word(&memory.table, 0) as usize)
+    let mut named: Vec<(Vec<u8>, Queue)> = (0..table_word(memory, 0) as usize)
         .map(|k| {
             let (len, start, next) = row(memory, k);
             let name = memory.names[at..at + len as usize].to_vec();
@@ -100,7 +126,7 @@ pub fn meaning(memory: &Memory) -> Queues {
         })
         .collect();
     let mut from = 0;
-    for i in 0..word(&memory.table, 2) as usize {
+    for i in 0..table_word(memory, 2) as usize {
         let (queue, position, len) = entry(memory, i);
         let payload = memory.payloads[from..from + len as usize].to_vec();
         from += len as usize;

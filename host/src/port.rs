@@ -1,5 +1,6 @@
 //! A safe wrapper over the port's exported entries (include/mrecordlog.h): it owns all that is lent.
 
+use crate::frames::items_of;
 use crate::plain::{Bound, Call, Corruption, Done, Reader, Reading, Record, Type};
 
 #[rustfmt::skip]
@@ -163,7 +164,7 @@ pub fn read_by(log: &[u8], scratch: &mut [u8], block: &mut usize, cursor: &mut u
     let values = [position, name_start, name_len, items_start, items_len];
     if matches!(kind, 1..=4) {
         let name = part(scratch, name_start, name_len)?.to_vec();
-        let items = items_in(part(scratch, items_start, items_len)?).ok_or(Refused::WithValues(0))?;
+        let items = items_of(part(scratch, items_start, items_len)?).ok_or(Refused::WithValues(0))?;
         let of = |kind| Ok(Reading::Record(Record { kind, position, name, items }));
         return match kind {
             4 => of(Type::Append),
@@ -182,18 +183,6 @@ pub fn read_by(log: &[u8], scratch: &mut [u8], block: &mut usize, cursor: &mut u
         8 => Ok(Reading::Corrupt(Corruption::Record)),
         _ => Err(Refused::WithValues(0)),
     }
-}
-
-/// The items that lie one behind the other: position, length, data.
-fn items_in(mut bytes: &[u8]) -> Option<Vec<(u64, Vec<u8>)>> {
-    let mut items = vec![];
-    while !bytes.is_empty() {
-        let position = u64::from_le_bytes(bytes.get(..8)?.try_into().unwrap());
-        let len = u32::from_le_bytes(bytes.get(8..12)?.try_into().unwrap()) as usize;
-        items.push((position, bytes.get(12..12 + len)?.to_vec()));
-        bytes = &bytes[12 + len..];
-    }
-    Some(items)
 }
 
 /// The queues of a log's records into queue memory, with corruption count and resume point.

@@ -1,21 +1,21 @@
 -- From what replay leaves to the listing: what the listing asks holds, and the text that is left is the one that the definitions give.
 -- Assumes nothing.
-use mathlib.Core.Path.{_≡_, refl, sym, _∙_, ap, subst}
+use mathlib.Core.Path.{_≡_, sym, _∙_, ap, subst}
 use mathlib.Core.Bool.{Bool, true, false, cond}
 use mathlib.Core.List.{List}
-use Prim.Native.Nat.{ℕ, _+_, _*_, _/_, _≤_, _<_}
+use Prim.Native.Nat.{ℕ, _*_, _≤_}
 use native.Mathlib.Omega.{arith}
 use lib.ListN.{length}
 use Rattle.slices.specs.Bytes.{zeros}
 use Rattle.frame.specs.Block.{blocks}
 use Rattle.recordlog.specs.Read.{resume}
 use Rattle.queues.specs.declared.RecordEntry.{RecordEntry}
-use Rattle.queues.specs.Queues.{Queue, Capacities}
+use Rattle.queues.specs.Queues.{Queue}
 use Rattle.queues.specs.Layout.{Memory, memory, meaning, arranged, capacities}
 use Rattle.queues.specs.Claims.{Leaves}
 use Rattle.calls.specs.Refusals.{logRefused}
 use Rattle.calls.specs.Reading.{readings, lostIn}
-use Rattle.calls.specs.Replay.{Outcome, refused, left, Replayed, replayOf, replayedBy, replayCall, outcomeQueues, replayScratch}
+use Rattle.calls.specs.Replay.{Outcome, refused, left, replayOf, replayedBy, replayCall, outcomeQueues, replayScratch}
 use Rattle.calls.proofs.Passed.{log-taken}
 use Rattle.calls.proofs.AnyLog.{resumes-in-log}
 use Rattle.turn.specs.declared.ReplayAnswer.{ReplayAnswer}

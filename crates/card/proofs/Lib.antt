@@ -1,5 +1,6 @@
 pub mod OwnTable
 pub mod Between
+pub mod Typed
 pub mod CallRules
 pub mod Sizes
 pub mod Short

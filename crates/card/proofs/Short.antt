@@ -2,9 +2,9 @@
 -- Assumes nothing.
 use mathlib.Core.Path.{_≡_, refl, sym, _∙_, ap, subst}
 use mathlib.Core.Logic.{_⊎_, inl, inr}
-use mathlib.Core.Bool.{Bool, true, false, cond, _&&_, _||_}
+use mathlib.Core.Bool.{Bool, true, false, cond, _&&_}
 use mathlib.Core.List.{List, [], _∷_}
-use Prim.Native.Nat.{ℕ, _+_, _*_, _≤_, _<_, _^_}
+use Prim.Native.Nat.{ℕ, _*_, _≤_, _<_, _^_}
 use native.Mathlib.Omega.{arith}
 use lib.Dec.{ltb, leb}
 use lib.ListN.{length, length-replicate}
@@ -12,9 +12,8 @@ use borrow.Author.Tests.{ltb-false, leb-true, le-leb}
 use Rattle.slices.specs.Bytes.{Bytes, zeros}
 use Rattle.frame.specs.Block.{blocks}
 use Rattle.recordlog.specs.Read.{resume}
-use Rattle.queues.specs.Queues.{Queue, Capacities, nameBytes, recordCount, payloadBytes, inOrder}
+use Rattle.queues.specs.Queues.{nameBytes, recordCount, payloadBytes, inOrder}
 use Rattle.queues.proofs.Both.{and-left, and-right}
-use Rattle.calls.specs.Refusals.{logRefused}
 use Rattle.calls.specs.Reading.{ReadAnswer, gaveRecord, gaveCorruption, gaveEnd, gaveRefusal, readings, countedIn, lostIn}
 use Rattle.calls.specs.Replay.{Outcome, refused, left, replayOf, replayedBy, replayCall}
 use Rattle.calls.specs.Claims.{queuesArranged}
@@ -23,7 +22,6 @@ use Rattle.calls.proofs.Chain.{or-left, or-right}
 use Rattle.calls.proofs.Answers.{reading-bound}
 use Rattle.calls.proofs.Numbers.{replay-never-six}
 use Rattle.calls.proofs.AnyLog.{replay-arranged, resumes-in-log}
-use Rattle.listing.specs.declared.Listed.{Listed}
 use Rattle.listing.specs.declared.Listed.the-variants.{Bytes as bytes, NoRoom as noRoom}
 use Rattle.listing.specs.Digits.{digit, decimalIn, decimal}
 use Rattle.listing.specs.Writing.{listed}

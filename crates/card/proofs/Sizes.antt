@@ -1,9 +1,9 @@
 -- The sizes of a card and of the memory that its listing takes.
 -- Assumes nothing.
-use mathlib.Core.Path.{_≡_, refl, sym, _∙_, ap, ap₂}
-use mathlib.Core.Bool.{Bool, true, false, cond, _||_}
+use mathlib.Core.Path.{_≡_, sym, _∙_, ap, ap₂}
+use mathlib.Core.Bool.{Bool, false, cond, _||_}
 use mathlib.Core.List.{List}
-use Prim.Native.Nat.{ℕ, _≤_, _<_}
+use Prim.Native.Nat.{ℕ, _≤_}
 use native.Mathlib.Omega.{arith}
 use lib.Dec.{ltb}
 use lib.ListN.{length, length-replicate}
@@ -16,7 +16,7 @@ use Rattle.calls.specs.Refusals.{logRefused}
 use Rattle.listing.specs.declared.Listed.{Listed}
 use Rattle.listing.specs.Writing.{written, listed}
 use Rattle.listing.specs.Listing.{refusal}
-use Rattle.card.specs.Card.{textIn, readoutRoom, readoutScratch, sizedText, notSized, cardText}
+use Rattle.card.specs.Card.{textIn, readoutRoom, sizedText, notSized, cardText}
 use Rattle.card.specs.Kept.{lentTo, CardKept}
 use Rattle.card.specs.Claims.{TooShort, TooLong}
 use Rattle.card.proofs.OwnTable.{blanks-length}

@@ -6,7 +6,6 @@ use Prim.Native.Nat.{ℕ}
 use lib.ListN.{length, replicate}
 use Rattle.slices.specs.Bytes.{zeros}
 use Rattle.queues.specs.declared.RecordEntry.{RecordEntry}
-use Rattle.queues.specs.Queues.{Capacities}
 use Rattle.queues.specs.Layout.{Memory, memory, capacities}
 use Rattle.queues.specs.Changes.{blank}
 use Rattle.queues.specs.Claims.{Leaves}

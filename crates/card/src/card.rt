@@ -5,15 +5,23 @@ ghost use lib.ListN.{length};
 ghost use Rattle.slices.specs.Bytes.{zeros};
 ghost use Rattle.listing.specs.Writing.{written, listed};
 ghost use Rattle.card.specs.Card.{cardText, sizedText};
-use crate::parts::clear;
 use crate::replayed::list_replayed;
+use calls::Refusal;
+use frame::Reader;
 use listing::Listed;
 use listing::refused;
+use slices::clear;
+
+// Two blocks.
+const MAX_CARD_LEN: usize = 2 * Reader::BLOCK_NUM_BYTES;
 
 // The text for one or two blocks, in a buffer of zeros.
 fn list_sized(input: &[u8], out: &mut [u8]) -> Listed
-    requires { ⌜ (32768 ≤ length (now input)) × ((length (now input) ≤ 65536) × (now out ≡ zeros (length (now out)))) ⌝ }
-    ensures { λ r. ⌜ (r ≡ listed (length (now (out .entry))) (length (sizedText (now (input .entry))))) × (now (out .exit) ≡ written (zeros (length (now (out .entry)))) 0 (sizedText (now (input .entry)))) ⌝ }
+    requires { ⌜ (32768 ≤ length (now input))
+        × ((length (now input) ≤ 65536)
+        × (now out ≡ zeros (length (now out)))) ⌝ }
+    ensures { λ r. ⌜ (r ≡ listed (length (now (out .entry))) (length (sizedText (now (input .entry)))))
+        × (now (out .exit) ≡ written (zeros (length (now (out .entry)))) 0 (sizedText (now (input .entry)))) ⌝ }
 {
     let mut scratch = [0u8; 65536];
     let mut names = [0u8; 32768];
@@ -31,14 +39,15 @@ fn list_sized(input: &[u8], out: &mut [u8]) -> Listed
 
 // What `readout` prints for an input, with zeros behind it.
 pub fn list_card(input: &[u8], out: &mut [u8]) -> Listed
-    ensures { λ r. ⌜ (r ≡ listed (length (now (out .entry))) (length (cardText (now (input .entry))))) × (now (out .exit) ≡ written (zeros (length (now (out .entry)))) 0 (cardText (now (input .entry)))) ⌝ }
+    ensures { λ r. ⌜ (r ≡ listed (length (now (out .entry))) (length (cardText (now (input .entry)))))
+        × (now (out .exit) ≡ written (zeros (length (now (out .entry)))) 0 (cardText (now (input .entry)))) ⌝ }
 {
     clear(out);
-    if input.len() < 32768 {
-        return refused(out, 1);
+    if input.len() < Reader::BLOCK_NUM_BYTES {
+        return refused(out, Refusal::LOG_SIZE);
     }
-    if 65536 < input.len() {
-        return refused(out, 1);
+    if MAX_CARD_LEN < input.len() {
+        return refused(out, Refusal::LOG_SIZE);
     }
     list_sized(input, out)
 }

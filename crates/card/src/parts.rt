@@ -1,12 +1,11 @@
 // What stands between replay and the listing, by value.
 ghost use mathlib.Core.Path.{_≡_};
 ghost use lib.ListN.{length};
-ghost use Rattle.slices.specs.Bytes.{zeros};
 ghost use Rattle.card.specs.Kept.{numbersOf, closedAnswer, closedText};
 use crate::Numbers;
 use listing::Listed;
 use listing::refused;
-use slices::zero_at;
+use slices::clear;
 use turn::ReplayAnswer;
 
 // The numbers that replay answered; 0 and 0 where it was refused.
@@ -25,17 +24,10 @@ pub fn numbers_of(answer: ReplayAnswer) -> Numbers
     }
 }
 
-// Zeros in all of the buffer.
-pub fn clear(out: &mut [u8])
-    ensures { λ _. ⌜ now (out .exit) ≡ zeros (length (now (out .entry))) ⌝ }
-{
-    let n = out.len();
-    zero_at(out, 0, n);
-}
-
 // Where replay was refused, the refusal's text in place of the listing.
 pub fn close_card(answer: ReplayAnswer, listed: Listed, out: &mut [u8]) -> Listed
-    ensures { λ r. ⌜ (r ≡ closedAnswer answer listed (length (now (out .entry)))) × (now (out .exit) ≡ closedText answer (now (out .entry))) ⌝ }
+    ensures { λ r. ⌜ (r ≡ closedAnswer answer listed (length (now (out .entry))))
+        × (now (out .exit) ≡ closedText answer (now (out .entry))) ⌝ }
 {
     let ReplayAnswer::Refused(number) = answer else {
         return listed;

@@ -9,7 +9,7 @@ use crate::parts::close_card;
 use crate::parts::numbers_of;
 use listing::Listed;
 use listing::list;
-use queues::RecordEntry;
+use record_table::blank;
 use replays::replay;
 
 // The text for a log of 1 to 4,096 blocks, in a buffer of zeros.
@@ -22,14 +22,11 @@ pub fn list_replayed(
     out: &mut [u8],
 ) -> Listed
     requires { ⌜ (logRefused (now input) ≡ false) × (now out ≡ zeros (length (now out))) ⌝ }
-    ensures { λ r. ⌜ CardKept (now (input .entry)) (now (scratch .entry)) (now (names .entry)) (now (payloads .entry)) (now (table .entry)) (now (out .entry)) r (now (scratch .exit)) (now (names .exit)) (now (payloads .exit)) (now (table .exit)) (now (out .exit)) ⌝ }
+    ensures { λ r. ⌜ CardKept
+        (now (input .entry)) (now (scratch .entry)) (now (names .entry)) (now (payloads .entry)) (now (table .entry)) (now (out .entry))
+        r (now (scratch .exit)) (now (names .exit)) (now (payloads .exit)) (now (table .exit)) (now (out .exit)) ⌝ }
 {
-    let blank = RecordEntry {
-        queue: 0,
-        position: 0,
-        length: 0,
-    };
-    let mut records = [blank; 1024];
+    let mut records = [blank(); 1024];
     let answer = replay(input, scratch, names, payloads, &mut records, table);
     let numbers = numbers_of(answer);
     let listed = list(

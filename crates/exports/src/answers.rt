@@ -1,14 +1,14 @@
 // The arguments and the answers of the calls as numbers.
 ghost use mathlib.Core.Path.{_≡_};
+ghost use Rattle.calls.specs.Refused.{numberOf};
 ghost use Rattle.deciding.specs.Decided.{positionOf};
-ghost use Rattle.plan.specs.Answers.{createNumbers, deleteNumbers, truncateNumbers, appendNumbers};
-ghost use Rattle.exports.specs.Told.{positionNamed, callTold, tellCall, numberTold, replayTold, tellReplay};
-use deciding::AtPosition;
-use plan::AppendAnswer;
-use plan::CreateAnswer;
-use plan::DeleteAnswer;
-use plan::TruncateAnswer;
-use turn::ReplayAnswer;
+ghost use Rattle.plan.specs.Answers.{positionTaken, calledNumbers};
+ghost use Rattle.exports.specs.Told.{positionNamed, hasPosition, positionOr0, tellCall, replayTold, tellReplay};
+use crate::CallTold;
+use multi_record_log::AtPosition;
+use multi_record_log::Called;
+use multi_record_log::Last;
+use multi_record_log::ReplayAnswer;
 
 // The position that an append names.
 pub fn at_position(named: u64, position: u64) -> AtPosition
@@ -22,87 +22,60 @@ pub fn at_position(named: u64, position: u64) -> AtPosition
 
 // The number of a refusal; 0 is none.
 pub fn number_told(number: u64) -> u64
-    ensures { λ r. ⌜ r ≡ numberTold number ⌝ }
+    ensures { λ r. ⌜ r ≡ numberOf number ⌝ }
 {
     if number == 0 {
-        return 15;
+        return 99;
     }
     number
 }
 
-pub fn tell_create(answer: CreateAnswer, bytes_written: &mut u64) -> u64
-    ensures { λ r. ⌜ callTold r 0 0 0 (now («bytes_written» .exit)) ≡ tellCall (createNumbers answer) ⌝ }
+fn has_last(last: Last) -> u64
+    ensures { λ r. ⌜ r ≡ hasPosition (positionTaken last) ⌝ }
 {
-    match answer {
-        CreateAnswer::Created { bytes } => {
-            *bytes_written = bytes as u64;
-            0
-        }
-        CreateAnswer::Refused(number) => {
-            *bytes_written = 0;
-            number_told(number)
-        }
+    match last {
+        Last::Nowhere => 0,
+        Last::At(position) => 1,
     }
 }
 
-pub fn tell_delete(answer: DeleteAnswer, bytes_written: &mut u64) -> u64
-    ensures { λ r. ⌜ callTold r 0 0 0 (now («bytes_written» .exit)) ≡ tellCall (deleteNumbers answer) ⌝ }
+fn last_or_0(last: Last) -> u64
+    ensures { λ r. ⌜ r ≡ positionOr0 (positionTaken last) ⌝ }
 {
-    match answer {
-        DeleteAnswer::Deleted { bytes } => {
-            *bytes_written = bytes as u64;
-            0
-        }
-        DeleteAnswer::Refused(number) => {
-            *bytes_written = 0;
-            number_told(number)
-        }
+    match last {
+        Last::Nowhere => 0,
+        Last::At(position) => position,
     }
 }
 
-pub fn tell_truncate(answer: TruncateAnswer, gone: &mut u64, bytes_written: &mut u64) -> u64
-    ensures { λ r. ⌜ callTold r 0 0 (now (gone .exit)) (now («bytes_written» .exit)) ≡ tellCall (truncateNumbers answer) ⌝ }
+pub fn tell_call(answer: Called) -> CallTold
+    ensures { λ r. ⌜ r ≡ tellCall (calledNumbers answer) ⌝ }
 {
     match answer {
-        TruncateAnswer::Truncated { evicted, bytes } => {
-            *gone = evicted as u64;
-            *bytes_written = bytes as u64;
-            0
+        Called::Done {
+            last,
+            evicted,
+            bytes,
+        } => {
+            let has = has_last(last);
+            let at = last_or_0(last);
+            CallTold {
+                refusal: 0,
+                has_last: has,
+                last: at,
+                evicted: evicted as u64,
+                bytes: bytes as u64,
+            }
         }
-        TruncateAnswer::Refused(number) => {
-            *gone = 0;
-            *bytes_written = 0;
-            number_told(number)
-        }
-    }
-}
-
-pub fn tell_append(
-    answer: AppendAnswer,
-    has_last: &mut u64,
-    last_position: &mut u64,
-    bytes_written: &mut u64,
-) -> u64
-    ensures { λ r. ⌜ callTold r (now («has_last» .exit)) (now («last_position» .exit)) 0 (now («bytes_written» .exit)) ≡ tellCall (appendNumbers answer) ⌝ }
-{
-    match answer {
-        AppendAnswer::Appended { last, bytes } => {
-            *has_last = 1;
-            *last_position = last;
-            *bytes_written = bytes as u64;
-            0
-        }
-        AppendAnswer::Empty => {
-            *has_last = 0;
-            *last_position = 0;
-            *bytes_written = 0;
-            0
-        }
-        AppendAnswer::Refused(number) => {
-            *has_last = 0;
-            *last_position = 0;
-            *bytes_written = 0;
-            number_told(number)
+        Called::Refused(number) => {
+            let refusal = number_told(number);
+            CallTold {
+                refusal: refusal,
+                has_last: 0,
+                last: 0,
+                evicted: 0,
+                bytes: 0,
+            }
         }
     }
 }
@@ -119,7 +92,7 @@ pub fn tell_replay(answer: ReplayAnswer, lost_answers: &mut u64, resume: &mut u6
         ReplayAnswer::Refused(number) => {
             *lost_answers = 0;
             *resume = 0;
-            number
+            number_told(number)
         }
     }
 }

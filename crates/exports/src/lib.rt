@@ -1,9 +1,18 @@
-// The exported entries, for C and Rust: include/mrecordlog.h says what each does. The lent tables are bytes of any sizes, and answers are numbers.
+// The exported entries, for C and Rust: include/mrecordlog.h says what each does. The lent tables are bytes of any length, and answers are numbers.
 mod answers;
 mod checksum;
 mod questions;
 mod reading;
 mod writes;
+
+// What a call that writes tells: the refusal's number or 0, whether there is a last position and which, the records evicted, and the bytes written.
+pub struct CallTold {
+    pub refusal: u64,
+    pub has_last: u64,
+    pub last: u64,
+    pub evicted: u64,
+    pub bytes: u64,
+}
 
 // What a read tells: the refusal's number or 0, the kind of its answer, and a record's position and places in the scratch.
 pub struct ReadTold {

@@ -1,14 +1,14 @@
 // The questions.
 ghost use mathlib.Core.Path.{_≡_};
 ghost use Rattle.plan.specs.Answers.{positionsNumbers};
-ghost use Rattle.sized.specs.Sized.{memoryIn};
+ghost use Rattle.on_bytes.specs.OnBytes.{memoryBytes};
+ghost use Rattle.multi_record_log.specs.Tables.{memoryIn};
 ghost use Rattle.exports.specs.Told.{lowerOf, upperOf, rangeTold, tellRange, positionsTold, tellPositions};
 ghost use Rattle.exports.specs.Exported.{RangeExported, PositionsExported};
 use crate::answers::number_told;
-use plan::PositionsAnswer;
-use plan::RangeAnswer;
-use queues::Lower;
-use queues::Upper;
+use multi_record_log::Lower;
+use multi_record_log::QuestionAnswer;
+use multi_record_log::Upper;
 
 fn lower_bound(kind: u64, position: u64) -> Lower
     ensures { λ r. ⌜ r ≡ lowerOf kind position ⌝ }
@@ -35,16 +35,17 @@ fn upper_bound(kind: u64, position: u64) -> Upper
 }
 
 fn tell_range(
-    answer: RangeAnswer,
+    answer: QuestionAnswer,
     found: &mut u64,
     at: &mut u64,
     from: &mut u64,
     len: &mut u64,
 ) -> u64
-    ensures { λ r. ⌜ rangeTold r (now (found .exit)) (now (at .exit)) (now (from .exit)) (now (len .exit)) ≡ tellRange answer ⌝ }
+    ensures { λ r. ⌜ rangeTold r (now (found .exit)) (now (at .exit)) (now (from .exit)) (now (len .exit))
+        ≡ tellRange answer ⌝ }
 {
     match answer {
-        RangeAnswer::Record {
+        QuestionAnswer::Record {
             position,
             start,
             length,
@@ -55,33 +56,54 @@ fn tell_range(
             *len = length as u64;
             0
         }
-        RangeAnswer::Nothing => {
+        QuestionAnswer::Nothing => {
             *found = 0;
             *at = 0;
             *from = 0;
             *len = 0;
             0
         }
-        RangeAnswer::Refused(number) => {
+        QuestionAnswer::Positions { start, next } => {
             *found = 0;
             *at = 0;
             *from = 0;
             *len = 0;
-            number
+            99
+        }
+        QuestionAnswer::Refused(number) => {
+            *found = 0;
+            *at = 0;
+            *from = 0;
+            *len = 0;
+            number_told(number)
         }
     }
 }
 
-fn tell_positions(answer: PositionsAnswer, first: &mut u64, following: &mut u64) -> u64
+fn tell_positions(answer: QuestionAnswer, first: &mut u64, following: &mut u64) -> u64
     ensures { λ r. ⌜ positionsTold r (now (first .exit)) (now (following .exit)) ≡ tellPositions (positionsNumbers answer) ⌝ }
 {
     match answer {
-        PositionsAnswer::Positions { start, next } => {
+        QuestionAnswer::Positions { start, next } => {
             *first = start;
             *following = next;
             0
         }
-        PositionsAnswer::Refused(number) => {
+        QuestionAnswer::Record {
+            position,
+            start,
+            length,
+        } => {
+            *first = 0;
+            *following = 0;
+            99
+        }
+        QuestionAnswer::Nothing => {
+            *first = 0;
+            *following = 0;
+            99
+        }
+        QuestionAnswer::Refused(number) => {
             *first = 0;
             *following = 0;
             number_told(number)
@@ -105,11 +127,16 @@ pub extern "C" fn mrecordlog_range(
     start: &mut u64,
     length: &mut u64,
 ) -> u64
-    ensures { λ r. ⌜ RangeExported (memoryIn (now (names .entry)) (now (payloads .entry)) (now (entries .entry)) (now (table .entry))) (now (name .entry)) (lowerOf «lower_kind» lower) (upperOf «upper_kind» upper) (rangeTold r (now (found .exit)) (now (position .exit)) (now (start .exit)) (now (length .exit))) ⌝ }
+    ensures { λ r. ⌜ RangeExported
+        (memoryIn (memoryBytes (now (names .entry)) (now (payloads .entry)) (now (entries .entry)) (now (table .entry))))
+        (now (name .entry))
+        (lowerOf «lower_kind» lower)
+        (upperOf «upper_kind» upper)
+        (rangeTold r (now (found .exit)) (now (position .exit)) (now (start .exit)) (now (length .exit))) ⌝ }
 {
     let lo = lower_bound(lower_kind, lower);
     let hi = upper_bound(upper_kind, upper);
-    let answer = sized::range(names, payloads, entries, table, name, lo, hi);
+    let answer = multi_record_log::range(names, payloads, entries, table, name, lo, hi);
     tell_range(answer, found, position, start, length)
 }
 
@@ -123,8 +150,11 @@ pub extern "C" fn mrecordlog_positions(
     start: &mut u64,
     next: &mut u64,
 ) -> u64
-    ensures { λ r. ⌜ PositionsExported (memoryIn (now (names .entry)) (now (payloads .entry)) (now (entries .entry)) (now (table .entry))) (now (name .entry)) (positionsTold r (now (start .exit)) (now (next .exit))) ⌝ }
+    ensures { λ r. ⌜ PositionsExported
+        (memoryIn (memoryBytes (now (names .entry)) (now (payloads .entry)) (now (entries .entry)) (now (table .entry))))
+        (now (name .entry))
+        (positionsTold r (now (start .exit)) (now (next .exit))) ⌝ }
 {
-    let answer = sized::positions(names, payloads, entries, table, name);
+    let answer = multi_record_log::positions(names, payloads, entries, table, name);
     tell_positions(answer, start, next)
 }

@@ -32,6 +32,14 @@ pub record Wrote (s : List ℕ) (p : ℕ) (xs : List ℕ) (q : ℕ) (t : List �
   pub place : q ≡ behind (length s) p (length xs)
   pub buffer : t ≡ written s p xs
 
+-- the same, where n bytes of the names or payloads are then passed
+abbrev pub WrotePast : List ℕ → ℕ → List ℕ → ℕ → Cursor → List ℕ → Type 0
+WrotePast s p xs n q t = (q ≡ cursor (behind (length s) p (length xs)) n) × (t ≡ written s p xs)
+
 -- what is answered for a text of k bytes in a buffer of n
 unfoldable pub listed : ℕ → ℕ → Listed
 listed n k = cond (leb k n) (bytes k) noRoom
+
+-- the text xs stands in the buffer s from its start on: a is what is answered, t what is left in the buffer
+abbrev pub Lists : List ℕ → List ℕ → Listed → List ℕ → Type 0
+Lists s xs a t = (a ≡ listed (length s) (length xs)) × (t ≡ written s 0 xs)

@@ -9,6 +9,7 @@ use crate::digits::put_decimal;
 use crate::digits::put_hex;
 use crate::write::put_byte;
 use crate::write::put_bytes;
+use frame::Reader;
 
 // A word and a number.
 fn put_numbered(out: &mut [u8], at: usize, word: &[u8], n: u64) -> usize
@@ -59,7 +60,7 @@ pub fn fill_tenths(resumed: usize, log_bytes: usize) -> u64
     requires { ⌜ LogFits resumed «log_bytes» ⌝ }
     ensures { λ r. ⌜ r ≡ fillTenths resumed «log_bytes» ⌝ }
 {
-    let whole = log_bytes / 32768 * 32768;
+    let whole = log_bytes / Reader::BLOCK_NUM_BYTES * Reader::BLOCK_NUM_BYTES;
     halves_up(1000 * (resumed as u64), whole as u64)
 }
 

@@ -5,7 +5,7 @@ ghost use Prim.Native.Nat.{_+_, _≤_};
 ghost use lib.ListN.{length};
 ghost use Rattle.queues.specs.Layout.{memory, meaning, arranged};
 ghost use Rattle.queues.specs.Changes.{wordAt};
-ghost use Rattle.listing.specs.Writing.{written, behind, cursor, listed};
+ghost use Rattle.listing.specs.Writing.{written, WrotePast, Lists};
 ghost use Rattle.listing.specs.Listing.{listing, LogFits};
 ghost use Rattle.listing.specs.Passes.{countTo, linesTo, queueText, queuesTo, recordsAt, queuesAt, EntriesFit, QueueFits, QueuesFit};
 use crate::Cursor;
@@ -45,7 +45,8 @@ pub fn record_lines(
     queue: usize,
 ) -> Cursor
     requires { ⌜ EntriesFit (now entries) (now payloads) count ⌝ }
-    ensures { λ r. ⌜ (r ≡ recordsAt (length (now (out .entry))) at queue (now (entries .entry)) (now (payloads .entry)) count) × (now (out .exit) ≡ written (now (out .entry)) at (linesTo queue (now (entries .entry)) (now (payloads .entry)) count)) ⌝ }
+    ensures { λ r. ⌜ (r ≡ recordsAt (length (now (out .entry))) at queue (now (entries .entry)) (now (payloads .entry)) count)
+        × (now (out .exit) ≡ written (now (out .entry)) at (linesTo queue (now (entries .entry)) (now (payloads .entry)) count)) ⌝ }
 {
     let mut from = Cursor { at: at, passed: 0 };
     let mut i: usize = 0;
@@ -69,7 +70,10 @@ pub fn queue_text(
     k: usize,
 ) -> Cursor
     requires { ⌜ QueueFits (now names) (now payloads) (now entries) (now table) count (from .passed) k ⌝ }
-    ensures { λ r. ⌜ (r ≡ cursor (behind (length (now (out .entry))) (from .at) (length (queueText (now (names .entry)) (now (payloads .entry)) (now (entries .entry)) (now (table .entry)) count (from .passed) k))) (from .passed + wordAt (now (table .entry)) k 0)) × (now (out .exit) ≡ written (now (out .entry)) (from .at) (queueText (now (names .entry)) (now (payloads .entry)) (now (entries .entry)) (now (table .entry)) count (from .passed) k)) ⌝ }
+    ensures { λ r. ⌜ WrotePast (now (out .entry)) (from .at)
+        (queueText (now (names .entry)) (now (payloads .entry)) (now (entries .entry)) (now (table .entry)) count (from .passed) k)
+        (from .passed + wordAt (now (table .entry)) k 0)
+        r (now (out .exit)) ⌝ }
 {
     let records = held_of(entries, count, k);
     let row = row_line(names, table, out, from, k, records);
@@ -89,7 +93,10 @@ pub fn queue_lines(
     queues: usize,
 ) -> Cursor
     requires { ⌜ QueuesFit (now names) (now payloads) (now entries) (now table) count queues ⌝ }
-    ensures { λ r. ⌜ (r ≡ queuesAt (length (now (out .entry))) at (now (names .entry)) (now (payloads .entry)) (now (entries .entry)) (now (table .entry)) count queues) × (now (out .exit) ≡ written (now (out .entry)) at (queuesTo (now (names .entry)) (now (payloads .entry)) (now (entries .entry)) (now (table .entry)) count queues)) ⌝ }
+    ensures { λ r. ⌜ (r ≡ queuesAt (length (now (out .entry))) at
+        (now (names .entry)) (now (payloads .entry)) (now (entries .entry)) (now (table .entry)) count queues)
+        × (now (out .exit) ≡ written (now (out .entry)) at
+        (queuesTo (now (names .entry)) (now (payloads .entry)) (now (entries .entry)) (now (table .entry)) count queues)) ⌝ }
 {
     let mut from = Cursor { at: at, passed: 0 };
     let mut k: usize = 0;
@@ -111,8 +118,11 @@ pub fn list(
     log_bytes: usize,
     out: &mut [u8],
 ) -> Listed
-    requires { ⌜ (arranged (memory (now names) (now payloads) (now entries) (now table)) ≡ true) × LogFits resumed «log_bytes» ⌝ }
-    ensures { λ r. ⌜ (r ≡ listed (length (now (out .entry))) (length (listing (meaning (memory (now (names .entry)) (now (payloads .entry)) (now (entries .entry)) (now (table .entry)))) lost resumed «log_bytes»))) × (now (out .exit) ≡ written (now (out .entry)) 0 (listing (meaning (memory (now (names .entry)) (now (payloads .entry)) (now (entries .entry)) (now (table .entry)))) lost resumed «log_bytes»)) ⌝ }
+    requires { ⌜ (arranged (memory (now names) (now payloads) (now entries) (now table)) ≡ true)
+        × LogFits resumed «log_bytes» ⌝ }
+    ensures { λ r. ⌜ Lists (now (out .entry))
+        (listing (meaning (memory (now (names .entry)) (now (payloads .entry)) (now (entries .entry)) (now (table .entry)))) lost resumed «log_bytes»)
+        r (now (out .exit)) ⌝ }
 {
     let sums = held(table);
     let first = queues_line(out, sums.queues);

@@ -1,3 +1,4 @@
 pub mod Building
 pub mod Planned
 pub mod Answering
+pub mod Asking

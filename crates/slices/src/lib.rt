@@ -38,6 +38,14 @@ pub fn zero_at(dst: &mut [u8], at: usize, n: usize)
     }
 }
 
+// Zeros in all of the slice.
+pub fn clear(dst: &mut [u8])
+    ensures { λ _. ⌜ now (dst .exit) ≡ zeros (length (now (dst .entry))) ⌝ }
+{
+    let n = dst.len();
+    zero_at(dst, 0, n);
+}
+
 // The n bytes from `from` on, at the lower place `to`.
 pub fn move_down(s: &mut [u8], to: usize, from: usize, n: usize)
     requires { ⌜ (to ≤ from) × (from + n ≤ length (now s)) ⌝ }

@@ -1,11 +1,7 @@
 //! Writes the stored sample of the Rust's answers: `sample [FOLDER [SEED]]` makes FOLDER/stdin, lists of commands, and FOLDER/stdout, what the Rust answers to
 //! them. FOLDER is crates/rust_answers by default, whose program replays the list. Nothing here runs the port.
 //!
-//! A command has 24 bytes, its numbers little-endian: 0 what is done, 1 a byte, 2 to 3 a length, 4 to 7 n, 8 to 11 b, 12 to 15 a seed, 16 to 23 a position.
-//! With it go some bytes, as many as the length says: each is its byte 1; where that is 0 they follow the command. They are a queue's name, or bytes of a log.
-//! A run of bytes from a seed x: for each byte x becomes (1,103,515,245 x + 12,345) mod 2^31, and the byte is x / 65,536 mod 256.
-//! n payloads with b bytes are such a run, end to end: each has b / n bytes, and the first b mod n have one more.
-//! The commands themselves are listed at the top of crates/rust_answers/src/main.rt.
+//! A command is a line of words and decimals, as the head of crates/commands/src/lib.rt lists them.
 
 use std::fmt::Write as _;
 use std::fs;
@@ -21,41 +17,23 @@ const QUEUES: usize = 64;
 const RECORDS: usize = 1024;
 const NAME_BYTES: usize = 32_768;
 
-#[derive(Clone, Default)]
-struct Command {
-    op: u8,
-    bytes: Vec<u8>,
-    n: u32,
-    b: u32,
-    seed: u32,
-    position: u64,
+/// Bytes as a word: as they stand where they are letters and digits, else in hex.
+fn plain(bytes: &[u8]) -> String {
+    match std::str::from_utf8(bytes) {
+        Ok(text) if text.bytes().all(|byte| byte.is_ascii_alphanumeric()) && !text.starts_with("0x") => text.to_string(),
+        _ => bytes.iter().fold("0x".to_string(), |hex, byte| hex + &format!("{byte:02x}")),
+    }
 }
 
-impl Command {
-    fn new(op: u8) -> Self {
-        Command { op, ..Command::default() }
+/// A name or bytes of a log as a word: `-` for none, and where a few bytes stand again and again, these and the length.
+fn word(bytes: &[u8]) -> String {
+    if bytes.is_empty() {
+        return "-".to_string();
     }
-
-    /// The byte that all bytes are, where they are one and the same and not 0.
-    fn byte(&self) -> u8 {
-        match self.bytes.first() {
-            None => 1,
-            Some(&first) if self.bytes.iter().all(|&byte| byte == first) => first,
-            Some(_) => 0,
-        }
-    }
-
-    fn encode(&self) -> Vec<u8> {
-        let mut out = vec![self.op, self.byte()];
-        out.extend((self.bytes.len() as u16).to_le_bytes());
-        out.extend(self.n.to_le_bytes());
-        out.extend(self.b.to_le_bytes());
-        out.extend(self.seed.to_le_bytes());
-        out.extend(self.position.to_le_bytes());
-        if self.byte() == 0 {
-            out.extend(&self.bytes);
-        }
-        out
+    let repeats = |unit: &usize| bytes.len() % unit == 0 && bytes.len() / unit > 3 && bytes.chunks(*unit).all(|part| part == &bytes[..*unit]);
+    match (1..=16.min(bytes.len() - 1)).find(repeats) {
+        Some(unit) => format!("{}*{}", plain(&bytes[..unit]), bytes.len()),
+        None => plain(bytes),
     }
 }
 
@@ -90,7 +68,7 @@ fn told_record((position, payload): &(u64, Vec<u8>)) -> String {
 /// The sample so far, and how many answers of each kind it has.
 #[derive(Default)]
 struct Sample {
-    stdin: Vec<u8>,
+    stdin: String,
     stdout: String,
     lists: u64,
     calls: u64,
@@ -109,7 +87,7 @@ struct List<'a> {
     log: Vec<u8>,
     place: usize,
     seed: u32,
-    commands: Vec<Command>,
+    commands: Vec<String>,
 }
 
 impl<'a> List<'a> {
@@ -124,12 +102,13 @@ impl<'a> List<'a> {
         List { sample, folder, rust, log, place: 0, seed: number as u32 * 1000, commands: vec![] }
     }
 
-    /// The list with its head, which says how many commands it has.
+    /// The list with its head: a zero log of so many blocks and no queues.
     fn end(self) {
-        let (n, b) = ((self.log.len() / BLOCK) as u32, self.commands.len() as u32);
-        let head = Command { n, b, position: self.sample.lists, ..Command::new(b'N') };
-        self.sample.stdin.extend(head.encode());
-        self.sample.stdin.extend(self.commands.iter().flat_map(Command::encode));
+        let (number, len) = (self.sample.lists, self.log.len());
+        writeln!(self.sample.stdin, "line list {number} blocks {}\nlend log {len}\nstart", len / BLOCK).unwrap();
+        for command in self.commands {
+            writeln!(self.sample.stdin, "{command}").unwrap();
+        }
     }
 
     fn rust(&mut self) -> &mut Oracle {
@@ -143,8 +122,9 @@ impl<'a> List<'a> {
     // ---- calls
 
     /// The answer of a call, with the log that it left.
-    fn call(&mut self, command: Command, answer: Result<(String, u64), u64>) {
+    fn call(&mut self, command: String, answer: Result<(String, u64), u64>) {
         self.commands.push(command);
+        self.commands.push("log".to_string());
         let answer = match answer {
             Ok((answer, bytes)) => {
                 self.place += bytes as usize;
@@ -175,21 +155,21 @@ impl<'a> List<'a> {
     fn create(&mut self, name: &str) {
         if self.room(11 + name.len()) {
             let answer = self.rust().create(name).map(|bytes| (format!(" created {bytes}"), bytes));
-            self.call(Command { bytes: name.into(), ..Command::new(b'c') }, answer);
+            self.call(format!("create {}", word(name.as_bytes())), answer);
         }
     }
 
     fn delete(&mut self, name: &str) {
         if self.room(11 + name.len()) {
             let answer = self.rust().delete(name).map(|bytes| (format!(" deleted {bytes}"), bytes));
-            self.call(Command { bytes: name.into(), ..Command::new(b'd') }, answer);
+            self.call(format!("delete {}", word(name.as_bytes())), answer);
         }
     }
 
     fn truncate(&mut self, name: &str, position: u64) {
         if self.room(11 + name.len()) {
             let answer = self.rust().truncate(name, position).map(|(evicted, bytes)| (format!(" evicted {evicted} bytes {bytes}"), bytes));
-            self.call(Command { bytes: name.into(), position, ..Command::new(b't') }, answer);
+            self.call(format!("truncate {} through {position}", word(name.as_bytes())), answer);
         }
     }
 
@@ -209,8 +189,8 @@ impl<'a> List<'a> {
                 (" empty".to_string(), 0)
             }
         });
-        let op = if position.is_some() { b'g' } else { b'a' };
-        self.call(Command { bytes: name.into(), n, b, seed, position: position.unwrap_or(0), ..Command::new(op) }, answer);
+        let at = position.map_or(String::new(), |position| format!(" at {position}"));
+        self.call(format!("append {} payloads {n} bytes {b} even seed {seed}{at}", word(name.as_bytes())), answer);
     }
 
     /// An append of one payload behind which so many bytes are left in the block, where that can be.
@@ -225,7 +205,7 @@ impl<'a> List<'a> {
     // ---- questions
 
     fn ranges(&mut self, name: &str, a: u64, b: u32) {
-        self.commands.push(Command { bytes: name.into(), b, position: a, ..Command::new(b'q') });
+        self.commands.push(format!("ranges {} from {a} to {b}", word(name.as_bytes())));
         let mut line = "range".to_string();
         for lower in [Bound::None, Bound::With(a), Bound::Without(a)] {
             for upper in [Bound::None, Bound::With(b as u64), Bound::Without(b as u64)] {
@@ -241,7 +221,7 @@ impl<'a> List<'a> {
     }
 
     fn queues(&mut self) {
-        self.commands.push(Command::new(b'Q'));
+        self.commands.push("queues".to_string());
         self.tell_queues();
     }
 
@@ -268,7 +248,7 @@ impl<'a> List<'a> {
     }
 
     fn replay(&mut self) {
-        self.commands.push(Command::new(b'R'));
+        self.commands.push("reopen".to_string());
         self.rust = None;
         self.folder.fill(&self.log);
         self.rust = Oracle::open(&self.folder);
@@ -294,7 +274,7 @@ impl<'a> List<'a> {
     }
 
     fn reads(&mut self) {
-        self.commands.push(Command::new(b'r'));
+        self.commands.push("reads".to_string());
         for answer in self.answers().0 {
             let line = match answer {
                 Reading::End => unreachable!(),
@@ -332,22 +312,22 @@ impl<'a> List<'a> {
     // ---- the log changed; only a replay may follow
 
     fn hit(&mut self, at: usize, by: u8) {
-        self.commands.push(Command { n: at as u32, b: by as u32, ..Command::new(b'X') });
+        self.commands.push(format!("xor at {at} by {by}"));
         self.log[at] ^= by;
     }
 
     fn cut(&mut self, at: usize) {
-        self.commands.push(Command { n: at as u32, ..Command::new(b'O') });
+        self.commands.push(format!("cut at {at}"));
         self.log[at..].fill(0);
     }
 
     fn bytes(&mut self, at: usize, bytes: &[u8]) {
-        self.commands.push(Command { bytes: bytes.to_vec(), n: at as u32, ..Command::new(b'L') });
+        self.commands.push(format!("put {} at {at}", word(bytes)));
         self.log[at..][..bytes.len()].copy_from_slice(bytes);
     }
 
     fn run(&mut self, at: usize, len: usize, seed: u32) {
-        self.commands.push(Command { n: at as u32, b: len as u32, seed, ..Command::new(b'F') });
+        self.commands.push(format!("fill bytes {len} at {at} seed {seed}"));
         self.log[at..][..len].copy_from_slice(&run(len, seed));
     }
 

@@ -2,6 +2,7 @@
 -- Assumes nothing.
 use mathlib.Core.Path.{sym, ap}
 use Rattle.exports.specs.Told.{tellReplay}
+use Rattle.exports.proofs.Telling.{replay-refused}
 use borrow.Author.Needs.{needs}
 use Rattle.exports.proofs.answers.tell_replay.Statement.{statement}
 use Rattle.exports.proofs.answers.tell_replay.Tie as tie
@@ -12,13 +13,17 @@ enum-known-answer c = search needs
 enum-known-answer-2 : tie.Need-enum-known-answer-2
 enum-known-answer-2 c = search needs
 
+number-told-requires : tie.Need-number-told-requires
+number-told-requires c κs = search needs
+
 returns : tie.Need-returns
 unfolding tellReplay
 returns c = sym (ap tellReplay (c .before .answer .given .1))
 
 returns-2 : tie.Need-returns-2
-unfolding tellReplay
-returns-2 c = sym (ap tellReplay (c .before .answer2 .given .1))
+returns-2 c = replay-refused _ _ _ (c .before .before .answer2 .given .1) (c .number-told .ensures)
 
 pub tell-replay-spec : {M : Type 1} → statement M
-tell-replay-spec = tie.close (tie.spec enum-known-answer enum-known-answer-2 returns returns-2)
+tell-replay-spec =
+    tie.close
+    (tie.spec enum-known-answer enum-known-answer-2 number-told-requires returns returns-2)

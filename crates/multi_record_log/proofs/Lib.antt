@@ -1,0 +1,3 @@
+pub mod Tables
+pub mod InUse
+pub mod Brought

@@ -1,2 +1,0 @@
-pub mod AskRules
-pub mod ReplayRules

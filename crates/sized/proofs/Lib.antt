@@ -1,3 +1,0 @@
-pub mod Tables
-pub mod BySize
-pub mod ReplayBySize
