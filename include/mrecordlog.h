@@ -1,4 +1,4 @@
-/* The exported entries of the queue log. Each returns 0, or the number of its refusal (1 to 14, docs/DEFINITIONS.md); then all values that it
+/* The exported entries of the queue log. Each returns 0, or the number of its refusal (1 to 14 and 18, docs/REFUSALS.md); then all values that it
  * gives by a pointer are 0. A slice is a pointer and its length; no two slices may overlap, and none may be null, also where its length is 0.
  *
  * Lent to each call: the log, the scratch, and the queue memory: names, payloads, the record table `entries` and the table of queues `table`. Both tables may
@@ -9,7 +9,7 @@
  * The numbers: 1 the log is under one block or over 4,096; 2 a name is over 65,535 bytes; 3 a name is not UTF-8; 4 position 2^64-1 is named; 5 over 1,024 payloads, or
  * lengths that do not sum to the bytes given; 6 the memory, the reader or the write position is not arranged; 7 the name is held; 8 it is not held; 9 the position is
  * past; 10 a payload would take position 2^64-1; 11 a record is longer than the scratch; 12 the queue memory is full; 13 the log is full; 14 replay meets a position
- * that cannot be taken.
+ * that cannot be taken; 18 a width that does not fit, of the two entries for byte planes alone.
  */
 #ifndef MRECORDLOG_H
 #define MRECORDLOG_H
@@ -103,5 +103,12 @@ uint64_t mrecordlog_read(const uint8_t *log, size_t log_len,
 
 /* The checksum of a frame: CRC-32 (IEEE 802.3) over its type byte, then its data. */
 uint32_t mrecordlog_checksum(uint8_t frame_type, const uint8_t *data, size_t data_len);
+
+/* Readings of `width` bytes each, stored by byte planes: first byte 0 of every reading, then byte 1, and so on. The log does not mark such payloads.
+ * 18, the only refusal: the width is outside 1 to 64 or does not divide payload_len, or target_len is not payload_len; the target is then as before. */
+uint64_t mrecordlog_to_planes(const uint8_t *payload, size_t payload_len, uint64_t width, uint8_t *target, size_t target_len);
+
+/* The readings that a payload of planes holds: the inverse, with the same refusal. */
+uint64_t mrecordlog_from_planes(const uint8_t *payload, size_t payload_len, uint64_t width, uint8_t *target, size_t target_len);
 
 #endif
