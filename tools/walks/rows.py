@@ -10,6 +10,11 @@ ROWS = {
     'unit': {'row': 'Nothing', 'den': 'Unit {0}', 'val': 'vunit%.0s', 'kind': 'unit', 'is': 'refl%.0s', 'makes': 'nothing-makes 𝓤 H A W'},
 }
 ROWS['u8']['is'] = ROWS['u32']['is'] = '(refl, %s)'
+def part_of(name, row):
+    """A part of a `&[row]` that is handed back, at the lifetime of the parameter of that name."""
+    one = 'ShrSlice (named 0) κ-%s %s' % (name, row)
+    ROWS['part'] = {'row': '(%s)' % one, 'den': '(RefT (List ℕ))', 'val': 'sliceVal (%s .ptr) (length (%s .now))', 'kind': 'part', 'fact': 'Room ' + row + ' (length (%s .now))', 'tells': 'shr-slice-tells (named 0) κ-%s %s' % (name, row)}
+part_of('payloads', 'u8')
 DECLARED = []
 def declared(crate, name, mod, kind):
     """A struct or enum of a crate, by the name of its module in the proofs."""
@@ -89,7 +94,7 @@ use denote.Plain.{uint-makes, uint-tells, bool-makes, Nothing}
 use denote.Builtin.{u8, u32, u64, usize, bool}
 use denote.Ref.{RefT, MutRef}
 use denote.Lend.{LentAgain, lends-again, comes-back}
-use denote.Slice.{ShrSlice, MutSlice, Room, shr-slice-copy}
+use denote.Slice.{sliceVal, ShrSlice, MutSlice, Room, shr-slice-copy, shr-slice-tells}
 use denote.Steps.{only, owned, peeks, heard, nothing}
 use denote.Struct.Laws as LL
 use denote.Enum.Laws as EL

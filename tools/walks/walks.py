@@ -47,7 +47,7 @@ class Gen:
     # rows: name -> dict(row, den, kind)
     def row(self, t): return self.S.ROWS[t]['row']
     def den(self, t): return self.S.ROWS[t]['den']
-    def val(self, t, x): return self.S.ROWS[t]['val'] % x
+    def val(self, t, x): return self.S.ROWS[t]['val'].replace('%s', x) if self.S.ROWS[t]['kind'] == 'part' else self.S.ROWS[t]['val'] % x
     def makes(self, t): return self.S.ROWS[t]['makes']
     def fact(self, t, x): f = self.S.ROWS[t].get('fact'); return f % x if f else None
     def isof(self, t, x): return self.S.ROWS[t]['is'] % x   # from the fact named x-is
@@ -117,6 +117,7 @@ class Gen:
         elif g.fact(rt, '(%s)' % f.res): facts += '%s → ' % g.fact(rt, '(%s)' % f.res)
         for p in refs:
             if p.k == 'mut' and not f.said: facts += 'length (%s) ≡ n-%s → ' % (f.exits[p.n], p.n)
+        if g.S.ROWS[rt]['kind'] == 'part': after = ['‵ (%s .own r (%s ∷ []))' % (g.row(rt), g.val(rt, 'r'))] + after
         o.append('        → (%sSeq K W (%s ∷ Γ) (lands C Λ E d (%s) rest p))' % (facts, ' ∷ '.join(after), g.val(rt, 'r' if f.said else '(%s)' % f.res)))
         before = [g.hold(p, p.n) for p in refs] if refs else ['h']
         o.append('        → Seq K W (%s ∷ Γ) (runs C Λ E (seq (call %s xs d) rest) p)' % (' ∷ '.join(before), f.sym))
@@ -160,7 +161,9 @@ class Gen:
         w = {p.n: 'ws' + proj(i) for i, p in enumerate(f.params)}
         kept = [p for p in refs if p.kept]
         said = ' '.join(['r'] + ['(%s)' % w[p.n] for p in kept])
-        c.w('\n        use1 W (some (λ (ws : %s). ‵ (lasts %s.ended %s %s ws) ⊛ raw (fact 𝓤 (Said %s)))) (id⊢ 𝓤 _) $ pick t (λ ws. split t $ move t (1 ∷ []) $ heard t (Said %s) (λ said.' % (wsT, code, lts, argsx, said, said)); par += 2
+        if f.silent: c.w('\n        use1 W (some (λ (ws : %s). ‵ (lasts %s.ended %s %s ws) ⊛ raw (emp 𝓤))) (id⊢ 𝓤 _) $ pick t (λ ws. split t $ move t (1 ∷ []) $ drop t $' % (wsT, code, lts, argsx))
+        else: c.w('\n        use1 W (some (λ (ws : %s). ‵ (lasts %s.ended %s %s ws) ⊛ raw (fact 𝓤 (Said %s)))) (id⊢ 𝓤 _) $ pick t (λ ws. split t $ move t (1 ∷ []) $ heard t (Said %s) (λ said.' % (wsT, code, lts, argsx, said, said))
+        par += 1 if f.silent else 2
         c.c = ['lasts', 'res', 'kept'] if refs else ['lasts', 'res', 'h']
         todo = len(kept)
         for p in f.params:
@@ -184,13 +187,15 @@ class Gen:
             valeq = '(sym (ap only (is .0) ∙ ap (vint w64) %s))' % say('res'); kargs = ' (subst (λ (m : ℕ). m < 2 ^ 64) %s (is .1))' % say('res')
         elif kind == 'bool':
             c.w('feqL t (λ is.'); par += 1; valeq = '(sym (ap only is ∙ ap vbool %s))' % say('res'); kargs = ''
+        elif kind == 'part':
+            c.w('peeks t %s (Is %s) (shows 𝓤 H A %s) r (v ∷ []) (λ is.' % ((g.row(rt),) * 3)); par += 1; valeq = None; kargs = ' (is .0 .1)'
         else:
             q = g.S.ROWS[rt]['mod']
             if not f.said: c.w('rewrite t 0 (λ (z : %s). ‵ (%s .own z (v ∷ []))) %s refl $' % (g.den(rt), g.row(rt), say('res')))
             res = 'r' if f.said else '(%s)' % f.res
             c.w('peeks t %s (Is %s) (shows 𝓤 H A %s) %s (v ∷ []) (λ is. drop t $' % (g.row(rt), g.row(rt), g.row(rt), res)); par += 1
             valeq = '(sym (ap only (%s′.lowers .val-is %s _ is)))' % (q, res); kargs = ' (subst (Is %s %s) (%s′.lowers .val-is %s _ is) is)' % (g.row(rt), res, q, res)
-        c.sub(1, [])
+        c.sub(1, ['part'] if kind == 'part' else [])
         for p in refs:
             c.front('toks'); c.w('split t $'); c.sub(1, ['tok-' + p.n, 'toks'])
             if p.lent: c.w('lft-end t tt $'); c.sub(1, ['dead-' + p.n])
@@ -221,7 +226,9 @@ class Gen:
             if p.k == 'mut': kargs += ' (same-%s ∙ len-%s)' % (p.n, p.n) if f.said else ' (ap length (sym %s) ∙ same-%s ∙ len-%s)' % (say(p.n), p.n, p.n)
         if f.said:
             kargs = ' ' + said + kargs + ' said'; after = [g.hold(p, '(%s)' % w[p.n] if p.kept else p.n) for p in refs]
-        c.w('\n        subst (λ (u : Val). Seq K W (%s ∷ Γ) (lands C Λ E d u rest p)) %s (k%s)' % (' ∷ '.join(after), valeq, kargs) + ')' * par)
+        if kind == 'part':
+            c.front('part'); c.w('\n        subst (λ (us : List Val). Seq K W (‵ (%s .own r us) ∷ %s ∷ Γ) (lands C Λ E d (only us) rest p)) (sym (%s r (v ∷ []) is)) (k%s)' % (g.row(rt), ' ∷ '.join(after), g.S.ROWS[rt]['tells'], kargs) + ')' * par)
+        else: c.w('\n        subst (λ (u : Val). Seq K W (%s ∷ Γ) (lands C Λ E d u rest p)) %s (k%s)' % (' ∷ '.join(after), valeq, kargs) + ')' * par)
         o.append('        ' + ' '.join(c.o))
         # where
         o.append('      where')
@@ -230,8 +237,8 @@ class Gen:
         aT = tupT([g.argT(p) for p in f.params])
         o.append('        args : %s%s' % (arrow, aT)); o.append('        args %s = %s' % (names(), tup([g.arg(p, 'δ-' + p.n if p.lent else 'γ-' + p.n) for p in f.params]))); o.append('')
         eqT = ([] if rt == 'unit' else ['r ≡ %s' % f.res]) + ['l-%s ≡ %s' % (p.n, f.exits[p.n]) for p in kept]
-        o.append('        Said : %s → %sType 0' % (g.den(rt), ''.join('%s → ' % ('List ' + g.den(p.t) if p.k == 'mut' else g.den(p.t)) for p in kept)))
-        o.append('        Said %s = %s' % (' '.join(['r'] + ['l-' + p.n for p in kept]), f.said or conj(eqT))); o.append('')
+        if not f.silent: o.append('        Said : %s → %sType 0' % (g.den(rt), ''.join('%s → ' % ('List ' + g.den(p.t) if p.k == 'mut' else g.den(p.t)) for p in kept)))
+        if not f.silent: o.append('        Said %s = %s' % (' '.join(['r'] + ['l-' + p.n for p in kept]), f.said or conj(eqT))); o.append('')
         qs = tup(['s-' + p.n if p.k == 'copy' else 'fullShare' for p in refs])
         o.append('        to : %s%s .Ghost' % (arrow, Cn))
         o.append('        to %s = ((%s, %s, tt, %s, %s), tt)' % (names(), lts, qs, argsx, tup(['%s ∷ []' % g.mval(p) for p in f.params]))); o.append('')
@@ -623,8 +630,8 @@ class Gen:
 class F:
     """A function. As a callee: params (name, kind, row), result's row, the result `res` and each `&mut` at its exit as terms over the names, `requires`.
     As the function that is walked besides: lets, typed, calls, told (facts of a parameter), post (the proof of its ensures; else refl for each equation)."""
-    def __init__(self, name, params, result='unit', res='tt', exits={}, lets=[], typed=[], calls=[], requires=None, crate=None, path=None, says=None, rules=None, alias=None, told=[], post=None, uses='', about=None, said=None, array=None, dash=None, rule=None, loop=None, literals=[], guards=[], res_is=None, opens='', lemmas='', answer=None):
-        self.guards = guards; self.res_is = res_is; self.opens = opens; self.lemmas = lemmas; self.answer = answer
+    def __init__(self, name, params, result='unit', res='tt', exits={}, lets=[], typed=[], calls=[], requires=None, crate=None, path=None, says=None, rules=None, alias=None, told=[], post=None, uses='', about=None, said=None, array=None, dash=None, rule=None, loop=None, literals=[], guards=[], res_is=None, opens='', lemmas='', answer=None, silent=False):
+        self.guards = guards; self.res_is = res_is; self.opens = opens; self.lemmas = lemmas; self.answer = answer; self.silent = silent
         self.crate = crate; self.path = path or name; self.rules = rules; self.requires = requires; self.told = told; self.post = post; self.said = said; self.array = array; self.loop = loop; self.rule = rule; self.literals = literals; self.uses = uses; self.about = about
         self.name = name; self.dash = dash or name.replace('_', '-'); self.params = [P(*x) for x in params]; self.result = result; self.res = res; self.exits = exits
         self.alias = alias or self.dash; self.rule = rule or self.dash; self.sym = ('#%s·%s' % (crate, self.path.replace('.', '·'))).replace('_', '-')

@@ -1,0 +1,2 @@
+pub mod LentAnswer
+pub mod PartRules
