@@ -18,8 +18,9 @@
 //   place, held, scratch, log   the write position; queues and name bytes held; whether the scratch is zero; CRC-32 of the log
 //   case TEXT, line TEXT, expect TEXT   the text printed: with a colon; as a line; behind a bar, what the case should answer
 //
-// A run of bytes from a seed x: for each byte x becomes (1,103,515,245 x + 12,345) mod 2^31, and the byte is x / 65,536 mod 256. An append's payloads are such a
-// run, end to end. The first payload has all bytes and the others none; with `even` n payloads of b bytes have b / n each, and the first b mod n one more.
+// A run of bytes from a seed x: for each byte x becomes (1,103,515,245 x + 12,345) mod 2^31, and the byte is x / 65,536 mod 256. An append's payloads are
+// such a run, end to end. The first payload has all bytes and the others none; with `even` n payloads of b bytes have b / n each, and the first b mod n one
+// more.
 mod answers;
 mod appends;
 mod bytes;
