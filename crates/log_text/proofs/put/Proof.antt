@@ -1,10 +1,10 @@
--- `log_edges::put` is safe: no table is a table.
+-- `log_text::put` is safe: no table is a table.
 -- Assumes nothing.
 use mathlib.Core.Path.{refl}
 use mathlib.Core.Logic.{inl}
 use borrow.Author.Needs.{needs}
-use Rattle.log_edges.proofs.put.Statement.{statement}
-use Rattle.log_edges.proofs.put.Tie as tie
+use Rattle.log_text.proofs.put.Statement.{statement}
+use Rattle.log_text.proofs.put.Tie as tie
 
 returns : tie.Need-returns
 returns c = search needs

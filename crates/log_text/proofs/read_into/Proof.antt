@@ -1,4 +1,4 @@
--- `log_edges::read_into` is safe and ends: each read leaves an arranged reader.
+-- `log_text::read_into` is safe and ends: each read leaves an arranged reader.
 -- Assumes nothing.
 use mathlib.Core.Path.{_≡_, refl, sym, subst}
 use mathlib.Core.Logic.{inl}
@@ -13,8 +13,8 @@ use Rattle.recordlog.specs.declared.RecordRead.{RecordRead}
 use Rattle.recordlog.specs.Read.{NextRead}
 use Rattle.recordlog.proofs.Sees.{fresh-arranged}
 use Rattle.recordlog.proofs.Forward.{moves-forward}
-use Rattle.log_edges.proofs.read_into.Statement.{statement}
-use Rattle.log_edges.proofs.read_into.Tie as tie
+use Rattle.log_text.proofs.read_into.Statement.{statement}
+use Rattle.log_text.proofs.read_into.Tie as tie
 
 still : {log scratch after : List ℕ} {r : Reader} {x : RecordRead} → Arranged log r → NextRead log scratch r x after → Arranged log (x .reader)
 still {log} {scratch} {r = r} a n = subst (Arranged log) (sym (n .reader)) (moves-forward log (length scratch) r a .arranged)
@@ -32,7 +32,7 @@ new-requires : tie.Need-new-requires Inv-loop μ-loop
 new-requires c κs = tt
 
 loop-holds : tie.Need-loop-holds Inv-loop μ-loop
-loop-holds c = (subst (Arranged (c .before .before .before .before .before .args .log .now)) (sym (c .new .ensures)) (fresh-arranged (c .before .before .before .before .before .args .log .now) (omega arith)), refl)
+loop-holds c = (subst (Arranged _) (sym (c .before .new .ensures)) (fresh-arranged _ (omega arith)), refl)
 
 slice-aggregate-next-record : tie.Need-slice-aggregate-next-record Inv-loop μ-loop
 slice-aggregate-next-record c = search needs
@@ -70,8 +70,8 @@ read-into-spec =
     (tie.spec
     Inv-loop
     μ-loop
-    returns
     new-requires
+    returns
     loop-holds
     slice-aggregate-next-record
     next-record-requires

@@ -1,11 +1,11 @@
--- `log_edges::count_up` is safe and ends.
+-- `log_text::count_up` is safe and ends.
 -- Assumes nothing.
 use mathlib.Core.Path.{_≡_, refl}
 use Prim.Native.Nat.{_-_, _<_}
 use native.Mathlib.Omega.{arith}
 use lib.ListN.{length, length-set}
-use Rattle.log_edges.proofs.count_up.Statement.{statement}
-use Rattle.log_edges.proofs.count_up.Tie as tie
+use Rattle.log_text.proofs.count_up.Statement.{statement}
+use Rattle.log_text.proofs.count_up.Tie as tie
 
 abbrev Inv-loop : tie.InvT-loop
 Inv-loop s₀ i₀ b₀ s i b = (length s ≡ length s₀) × (b < 251)

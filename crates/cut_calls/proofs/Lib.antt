@@ -1,0 +1,3 @@
+pub mod PowerCut
+pub mod Since
+pub mod On

@@ -1,0 +1,216 @@
+-- Power lost during the record that a call writes.
+-- Assumes nothing.
+use mathlib.Core.Path.{_≡_, refl, sym, ap, ap₂, subst, _∙_}
+use mathlib.Core.Bool.{Bool, true, false, cond}
+use mathlib.Core.List.{List, [], _∷_, _++_, map, append-nil, append-assoc}
+use Prim.Native.Nat.{ℕ, _+_, _*_, _≤_}
+use native.Mathlib.Omega.{arith}
+use lib.ListN.{length, take, drop}
+use Rattle.slices.proofs.Put.{length-put}
+use Rattle.frame.specs.Block.{blocks}
+use Rattle.recordlog.specs.Write.{Frame, framesOf, placeAfter, placeAll, recordBytes, laid}
+use Rattle.recordlog.specs.Read.{whole, endOfLog, readAll}
+use Rattle.recordlog.specs.Claims.{Each}
+use Rattle.recordlog.proofs.Frames.{length-record}
+use Rattle.record.specs.Record.{Record, encode}
+use Rattle.record.specs.Fits.{WellFormed}
+use Rattle.record.proofs.Codec.{decodes-back}
+use Rattle.queues.specs.Queues.{Queue, Position, Capacities}
+use Rattle.calls.specs.State.{State, Call, createCall, deleteCall, truncateCall, appendCall, Returned}
+use Rattle.calls.specs.Payloads.{firstPosition, givesEmpty}
+use Rattle.calls.specs.Refusals.{nextNamed, refusalsOf, refusalOf}
+use Rattle.calls.specs.Calls.{logged, wrote, createDone, deleteDone, truncateDone, emptyAnswer, appendTaking, appendDone, doneOf, callOf}
+use Rattle.calls.specs.Reading.{ReadAnswer, gaveRecord, gaveEnd, ofRecord, answerOf, readings}
+use Rattle.calls.specs.Replay.{replayAnswers, replayRecords, replayOf}
+use Rattle.calls.specs.Machine.{Listed, Machine, Fed, machineCall, machine}
+use Rattle.calls.specs.Run.{Run}
+use Rattle.calls.specs.Claims.{recordsOf, NoneLonger}
+use Rattle.calls.proofs.Passed.{create-passed, delete-passed, truncate-passed, AppendPassed, append-passed}
+use Rattle.calls.proofs.Done.{call-done}
+use Rattle.calls.proofs.Replaying.{replay-all, replay-corrupt}
+use Rattle.calls.proofs.Answers.{Formed, readings-same, records-given}
+use Rattle.calls.proofs.Follows.{encodings, map-append, records-of-append, encodings-append, Owns, Standing, log-size, machineOf}
+use Rattle.calls.proofs.Steps.{Stepped, stepped, follows}
+use Rattle.calls.proofs.Runs.{log-legal, each-limit}
+use Rattle.cut.specs.Cut.{cutLog, Unfit, Left, complete, headed, nothing, torn, given, cutAnswers}
+use Rattle.cut.specs.Cut.{left as leftBy}
+use Rattle.cut.specs.Claims.{Cutting}
+use Rattle.cut.proofs.Reading.{cut-read}
+use Rattle.cut.proofs.Origin.{cut-of-writing}
+use Rattle.recordlog.proofs.Append.{place-append}
+use Rattle.cut.proofs.State.{log-size as cut-size}
+use Rattle.cut_calls.specs.Claims.{answered, keptOf, Writes, cutOf, AfterCut, PowerCut}
+
+-- ---- a call leaves the log as long as it was
+
+logged-length : (s : State) (r : Record) (qs : List Queue) → placeAfter (s .place) (encode r) ≤ blocks (s .log) * 32768 → length (logged s r qs .log) ≡ length (s .log)
+unfolding logged
+logged-length s r qs h = length-put (s .log) (s .place) (recordBytes (s .place) (encode r)) (omega (arith, length-record (s .place) (encode r)))
+
+append-length : (s : State) (n : List ℕ) (a : Position) (run ks : List ℕ) → AppendPassed s n a run ks → (e : Bool) → givesEmpty a (nextNamed s n) ks ≡ e
+    → length (cond e (emptyAnswer s) (appendTaking s n (firstPosition a (nextNamed s n)) run ks) .state .log) ≡ length (s .log)
+unfolding emptyAnswer appendTaking wrote
+append-length s n a run ks p true e = refl
+append-length s n a run ks p false e = logged-length s _ _ (p .taking e .write .in-log)
+
+pub done-length : (s : State) (k : Call) → refusalOf s k ≡ 0 → length (doneOf s k .state .log) ≡ length (s .log)
+unfolding refusalsOf doneOf createDone deleteDone truncateDone appendDone wrote
+done-length s (createCall n) e = logged-length s _ _ (create-passed s n e .write .in-log)
+done-length s (deleteCall n) e = logged-length s _ _ (delete-passed s n e .write .in-log)
+done-length s (truncateCall n x) e = logged-length s _ _ (truncate-passed s n x e .write .in-log)
+done-length s (appendCall n a run ks) e = append-length s n a run ks (append-passed s n a run ks e) (givesEmpty a (nextNamed s n) ks) refl
+
+-- ---- answers
+
+pub answers-back : (l : Left) (r : Record) → WellFormed r → map answerOf (given l (encode r)) ≡ answered l r
+unfolding given answered answerOf ofRecord
+answers-back complete r f = ap (λ d. ofRecord d ∷ []) (decodes-back r f)
+answers-back headed r f = refl
+answers-back nothing r f = refl
+answers-back (torn s) r f = refl
+
+replays-back : (c : Capacities) (before : List Record) (l : Left) (r : Record)
+    → replayAnswers c [] (map gaveRecord before ++ (answered l r ++ (gaveEnd ∷ []))) ≡ replayRecords c [] (before ++ keptOf l r)
+unfolding answered keptOf
+replays-back c before complete r =
+    ap (replayAnswers c [])
+    (sym (ap (λ (a : List ReadAnswer). a ++ (gaveEnd ∷ [])) (map-append gaveRecord before (r ∷ [])) ∙ append-assoc (map gaveRecord before) (gaveRecord r ∷ []) (gaveEnd ∷ [])))
+    ∙ replay-all c [] (before ++ (r ∷ []))
+replays-back c before headed r = replay-corrupt c [] before [] _
+replays-back c before nothing r = replay-all c [] before ∙ ap (replayRecords c []) (sym (append-nil before))
+replays-back c before (torn s) r = replay-corrupt c [] before [] _
+
+-- ---- the parts of a list with one record more
+
+pub each-snoc : (P : List ℕ → Type 0) (rs : List (List ℕ)) (xs : List ℕ) → Each P (rs ++ (xs ∷ [])) → Each P rs × P xs
+each-snoc P [] xs h = (tt, h .0)
+each-snoc P (ys ∷ rs) xs h = let g = each-snoc P rs xs (h .1) in ((h .0, g .0), g .1)
+
+formed-snoc : (rs : List Record) (r : Record) → Formed (rs ++ (r ∷ [])) → Formed rs × WellFormed r
+formed-snoc [] r h = (tt, h .0)
+formed-snoc (q ∷ rs) r h = let g = formed-snoc rs r (h .1) in ((h .0, g .0), g .1)
+
+owns-last : (p : ℕ) (ls : List Listed) (l : Listed) → Owns p (ls ++ (l ∷ [])) → l .frames ≡ framesOf (placeAll p (encodings ls)) (encode (l .written))
+unfolding placeAll
+owns-last p [] l w = w .0
+owns-last p (m ∷ ls) l w = owns-last (placeAfter p (encode (m .written))) ls l (w .1)
+
+-- ---- the cut
+
+module _ (s s′ : State) (ls : List Listed) (l : Listed) (w : Standing s ls) (v : Standing s′ (ls ++ (l ∷ []))) (same : length (s′ .log) ≡ length (s .log))
+    (c limit : ℕ) (low : s .place ≤ c) (high : c ≤ s′ .place) (unfit : Unfit c (l .frames)) (none : NoneLonger limit (ls ++ (l ∷ []))) where
+  pub number-same : v .number ≡ w .number
+  number-same = omega (arith, log-size s ls w, log-size s′ (ls ++ (l ∷ [])) v, w .short, v .short)
+
+  parts : encodings (ls ++ (l ∷ [])) ≡ encodings ls ++ (encode (l .written) ∷ [])
+  parts = encodings-append ls (l ∷ [])
+
+  place-parts : placeAll 0 (encodings (ls ++ (l ∷ []))) ≡ placeAfter (placeAll 0 (encodings ls)) (encode (l .written))
+  unfolding placeAll
+  place-parts = ap (placeAll 0) parts ∙ place-append 0 (encodings ls) (encode (l .written) ∷ [])
+
+  pub room : placeAfter (placeAll 0 (encodings ls)) (encode (l .written)) ≤ w .number * 32768
+  room = omega (arith, v .room, place-parts, number-same)
+
+  pub own : l .frames ≡ framesOf (placeAll 0 (encodings ls)) (encode (l .written))
+  own = owns-last 0 ls l (v .owns)
+
+  pub limits : Each (λ ys. length ys ≤ limit) (encodings ls) × (length (encode (l .written)) ≤ limit)
+  limits = each-snoc (λ ys. length ys ≤ limit) (encodings ls) (encode (l .written)) (subst (Each (λ ys. length ys ≤ limit)) parts (each-limit limit (ls ++ (l ∷ [])) none))
+
+  pub formed : Formed (recordsOf ls) × WellFormed (l .written)
+  formed = formed-snoc (recordsOf ls) (l .written) (subst Formed (records-of-append ls (l ∷ [])) (v .formed))
+
+  pub cutting : Cutting (w .number) limit c (encodings ls) (encode (l .written)) (w .tail)
+  cutting = record {
+    some-blocks = w .some;
+    short-tail = w .short;
+    room = room;
+    behind = omega (arith, w .place-is);
+    limits = limits .0;
+    limit-next = limits .1;
+    unfit = subst (Unfit c) own unfit;
+  }
+
+  pub cut-is : take c (s′ .log) ++ drop c (s .log) ≡ cutLog (w .number) (encodings ls) (encode (l .written)) c ++ w .tail
+  cut-is =
+      ap₂ (λ (a b : List ℕ). take c a ++ drop c b)
+      (v .log-is ∙ ap₂ (λ (n : ℕ) (rs : List (List ℕ)). laid n rs ++ v .tail) number-same parts) (w .log-is)
+      ∙ cut-of-writing (w .number) c (encodings ls) (encode (l .written)) (w .tail) (v .tail) room (omega (arith, w .place-is)) (omega (arith, v .place-is, place-parts))
+
+  pub cut-length : length (take c (s′ .log) ++ drop c (s .log)) ≡ w .number * 32768 + length (w .tail)
+  cut-length = ap length cut-is ∙ cut-size (w .number) limit c (encodings ls) (encode (l .written)) (w .tail) cutting
+
+  pub reading-cut : readings (take c (s′ .log) ++ drop c (s .log)) limit ≡ map gaveRecord (recordsOf ls) ++ (answered (leftBy c (l .frames)) (l .written) ++ (gaveEnd ∷ []))
+  unfolding answerOf cutAnswers
+  reading-cut =
+      readings-same (take c (s′ .log) ++ drop c (s .log)) limit (log-legal (take c (s′ .log) ++ drop c (s .log)) (w .number) (length (w .tail)) cut-length (w .short) (w .some) (w .most))
+      ∙ ap (λ (log : List ℕ). map answerOf (readAll log limit)) cut-is
+      ∙ ap (map answerOf) (cut-read (w .number) limit c (encodings ls) (encode (l .written)) (w .tail) cutting)
+      ∙ map-append answerOf (map whole (encodings ls)) (given (leftBy c (framesOf (placeAll 0 (encodings ls)) (encode (l .written)))) (encode (l .written)) ++ (endOfLog ∷ []))
+      ∙ ap₂ (λ (a b : List ReadAnswer). a ++ b) (records-given (recordsOf ls) (formed .0))
+      (map-append answerOf (given (leftBy c (framesOf (placeAll 0 (encodings ls)) (encode (l .written)))) (encode (l .written))) (endOfLog ∷ [])
+      ∙ ap (λ (a : List ReadAnswer). a ++ (gaveEnd ∷ []))
+      (answers-back (leftBy c (framesOf (placeAll 0 (encodings ls)) (encode (l .written)))) (l .written) (formed .1)
+      ∙ ap (λ (fs : List Frame). answered (leftBy c fs) (l .written)) (sym own)))
+
+  pub replaying-cut : (m : Capacities) → replayOf (take c (s′ .log) ++ drop c (s .log)) m limit ≡ replayRecords m [] (recordsOf ls ++ keptOf (leftBy c (l .frames)) (l .written))
+  unfolding replayOf
+  replaying-cut m = ap (replayAnswers m []) reading-cut ∙ replays-back m (recordsOf ls) (leftBy c (l .frames)) (l .written)
+
+-- ---- after every list of calls
+
+module _ (s : State) (ls : List Listed) (w : Standing s ls) (k : Call) (l : Listed) (v : Standing (callOf s k .state) (ls ++ (l ∷ [])))
+    (same : length (callOf s k .state .log) ≡ length (s .log)) (c limit : ℕ) (low : s .place ≤ c) (high : c ≤ callOf s k .state .place)
+    (unfit : Unfit c (l .frames)) (none : NoneLonger limit (ls ++ (l ∷ []))) where
+  after-cut : AfterCut s k (recordsOf ls) (l .written) (leftBy c (l .frames)) (cutOf s k c) limit
+  after-cut = record {
+    reading = reading-cut s (callOf s k .state) ls l w v same c limit low high unfit none;
+    replay = again;
+    replay-before = λ e.
+        again (s .capacities) ∙ ap (replayRecords (s .capacities) []) (ap (λ (rs : List Record). recordsOf ls ++ rs) e ∙ append-nil (recordsOf ls)) ∙ w .replayed;
+    replay-after = λ e.
+        again (callOf s k .state .capacities)
+        ∙ ap (replayRecords (callOf s k .state .capacities) []) (ap (λ (rs : List Record). recordsOf ls ++ rs) e ∙ sym (records-of-append ls (l ∷ []))) ∙ v .replayed;
+  }
+    where
+      again : (m : Capacities) → replayOf (cutOf s k c) m limit ≡ replayRecords m [] (recordsOf ls ++ keptOf (leftBy c (l .frames)) (l .written))
+      again = replaying-cut s (callOf s k .state) ls l w v same c limit low high unfit none
+
+-- what is known of a call that writes a record
+pub record Known (h : List Fed) (s : State) (k : Call) (l : Listed) : Type 0 where
+  pub list : List Listed
+  pub records-is : machine h .records ≡ list
+  pub stands : Standing s list
+  pub stands-after : Standing (callOf s k .state) (list ++ (l ∷ []))
+  pub same : length (callOf s k .state .log) ≡ length (s .log)
+
+pub known : (h : List Fed) (s : State) → Run h s → (k : Call) (l : Listed) → Writes h s k l → Known h s k l
+known h s r k l wr = record { list = follows r .list; records-is = records-is; stands = follows r .stands; stands-after = v; same = same }
+  where
+    records-is : machine h .records ≡ follows r .list
+    records-is = ap (λ (m : Machine). m .records) (follows r .machine-is)
+
+    step : Stepped (doneOf s k .state) (machineCall (machineOf s (follows r .list)) k)
+    step = stepped s (follows r .list) (follows r .stands) k (wr .typed) (wr .done)
+
+    list-is : step .list ≡ follows r .list ++ (l ∷ [])
+    list-is =
+        sym (ap (λ (m : Machine). m .records) (step .machine-is))
+        ∙ ap (λ (m : Machine). machineCall m k .records) (sym (follows r .machine-is))
+        ∙ wr .more ∙ ap (λ (ms : List Listed). ms ++ (l ∷ [])) records-is
+
+    done-is : callOf s k .state ≡ doneOf s k .state
+    done-is = ap (λ (x : Returned). x .state) (call-done s k (wr .done))
+
+    v : Standing (callOf s k .state) (follows r .list ++ (l ∷ []))
+    v = subst (λ (x : State). Standing x (follows r .list ++ (l ∷ []))) (sym done-is) (subst (Standing (doneOf s k .state)) list-is (step .stands))
+
+    same : length (callOf s k .state .log) ≡ length (s .log)
+    same = ap (λ (x : State). length (x .log)) done-is ∙ done-length s k (wr .done)
+
+pub power-cut : PowerCut
+power-cut h s r k l wr c limit low high unfit none =
+    let w = known h s r k l wr in
+    subst (λ (ms : List Listed). AfterCut s k (recordsOf ms) (l .written) (leftBy c (l .frames)) (cutOf s k c) limit) (sym (w .records-is))
+    (after-cut s (w .list) (w .stands) k l (w .stands-after) (w .same) c limit low high unfit (subst (λ (ms : List Listed). NoneLonger limit (ms ++ (l ∷ []))) (w .records-is) none))
