@@ -17,6 +17,23 @@
 #include <stddef.h>
 #include <stdint.h>
 
+/* The numbers by name. */
+#define MRECORDLOG_LOG_SIZE 1
+#define MRECORDLOG_NAME_TOO_LONG 2
+#define MRECORDLOG_NOT_UTF8 3
+#define MRECORDLOG_LAST_POSITION_NAMED 4
+#define MRECORDLOG_PAYLOADS_WRONG 5
+#define MRECORDLOG_NOT_ARRANGED 6
+#define MRECORDLOG_QUEUE_HELD 7
+#define MRECORDLOG_QUEUE_MISSING 8
+#define MRECORDLOG_POSITION_PAST 9
+#define MRECORDLOG_NO_POSITION_LEFT 10
+#define MRECORDLOG_RECORD_TOO_LONG 11
+#define MRECORDLOG_MEMORY_FULL 12
+#define MRECORDLOG_LOG_FULL 13
+#define MRECORDLOG_REPLAY_POSITION 14
+#define MRECORDLOG_WIDTH_WRONG 18
+
 /* An empty queue with start 0. */
 uint64_t mrecordlog_create(uint8_t *log, size_t log_len, size_t *write_position,
                            uint8_t *scratch, size_t scratch_len,

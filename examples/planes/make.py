@@ -1,5 +1,5 @@
 #!/usr/bin/env python3
-"""Prints what the program planes_edges must print, from document 02's text alone: `python3 examples/planes/make.py > crates/planes_edges/stdout`."""
+"""Prints what the program test_planes must print, from document 02's text alone: `python3 examples/planes/make.py > crates/test_planes/stdout`."""
 
 
 def to_planes(payload, width):

@@ -2,7 +2,7 @@
 from rows import field
 from walks import F, Rules, Walk
 from loops import counted
-from sweeping import same, entry_at_shared
+from mem_sweep import same, entry_at_shared
 C = 'Rattle.listing.proofs.CallRules'; O = 'Rattle.listing.proofs.FacadeRules'
 OUT = ('out', 'mut', 'u8'); COUNT = ('count', 'plain', 'usize'); QUEUE = ('queue', 'plain', 'usize'); PLACE = ('place', 'plain', 'usize'); WHICH = ('which', 'plain', 'usize')
 NAMES = ('names', 'copy', 'u8'); PAYLOADS = ('payloads', 'copy', 'u8'); ENTRIES = ('entries', 'copy', 'RecordEntry'); TABLE = ('table', 'copy', 'u64'); FOUR = [NAMES, PAYLOADS, ENTRIES, TABLE]
@@ -22,9 +22,8 @@ record_lines = writes('record_lines', [ENTRIES, PAYLOADS, OUT, PLACE, COUNT, QUE
 past_queue = F('past_queue', [('row', 'plain', 'Cursor'), ('lines', 'plain', 'Cursor')], 'Cursor', 'cursor (lines .at) (row .passed)', crate='listing', path='text.past_queue', rules=C)
 TEXT = 'queueText names payloads entries table count (cur .passed) which'
 queue_text = writes('queue_text', FOUR + [OUT, CURSOR, COUNT, WHICH], 'Cursor', moved(TEXT, 'wordAt table which 0'), '(cur .at)', TEXT, requires='QueueFits names payloads entries table count (cur .passed) which', path='passes.queue_text')
-held = F('held', [TABLE], 'Held', 'heldIn table', crate='tables', path='table.held', rules=C)
+held = F('held', [TABLE], 'Held', 'heldIn table', crate='mem_names', path='table.held', rules=C)
 queues_line = writes('queues_line', [OUT, ('queues', 'plain', 'usize')], 'usize', 'behind (length out) 0 (length (numberLine queuesWord queues))', '0', 'numberLine queuesWord queues', path='text.queues_line')
-queue_lines = writes('queue_lines', FOUR + [OUT, PLACE, COUNT, ('queues', 'plain', 'usize')], 'Cursor', 'queuesAt (length out) place names payloads entries table count queues', 'place', 'queuesTo names payloads entries table count queues', requires='QueuesFit names payloads entries table count queues', path='passes.queue_lines')
 LOG = [('lost', 'plain', 'u64'), ('resumed', 'plain', 'usize'), ('bytes', 'plain', 'usize')]
 end_lines = writes('end_lines', [OUT, PLACE] + LOG, 'Listed', 'listed (length out) (behind (length out) place (length (endLines lost resumed bytes)))', 'place', 'endLines lost resumed bytes', requires='LogFits resumed bytes', path='text.end_lines')
 MEMORY = '(memory names payloads entries table)'; ALL = 'listing (meaning %s) lost resumed bytes' % MEMORY; LISTS = '(arranged %s ≡ true) × LogFits resumed bytes' % MEMORY
@@ -33,11 +32,13 @@ list_ = outside(writes('list', [(n, 'shr', t) for n, _, t in FOUR] + LOG + [OUT]
 refused = outside(writes('refused', [OUT, ('number', 'plain', 'u64')], 'Listed', 'listed (length out) (length (refusal number))', '0', 'refusal number', path='text.refused'))
 USES = '''
 use lib.ListN.{length, getD, take, drop as dropped}
-use Rattle.queues.specs.Layout.{memory, meaning, arranged}
-use Rattle.queues.specs.Changes.{blank, wordAt}
+use Rattle.queues.specs.Layout.{memory, meaning, arranged, blank}
+use Rattle.queues.specs.Changes.{wordAt}
 use Rattle.queues.specs.Access.{heldIn}
-use Rattle.listing.specs.Writing.{written, behind, cursor, listed}
-use Rattle.listing.specs.Listing.{queuesWord, numberLine, endLines, LogFits, listing, refusal}
+use Rattle.listing.specs.Writing.{written, listed}
+use Rattle.listing.specs.Internal.{behind, cursor, Lists}
+use Rattle.listing.specs.Listing.{queuesWord, numberLine, endLines, listing, refusal}
+use Rattle.listing.specs.Claims.{LogFits}
 use Rattle.listing.specs.Passes.{counted, countTo, entryLine, rowLine, RowLine, linesTo, queueText, queuesTo, recordsAt, queuesAt, EntriesFit, QueueFits, QueuesFit}
 use Rattle.listing.proofs.Counting.{count-zero, count-next, count-below, records-zero, lines-zero, records-next, lines-next, lines-length, entry-inside, queue-text-is, queues-zero, texts-zero, queues-next, texts-next, texts-length, queue-inside}
 use Rattle.listing.proofs.Meanings.{queues-fit, list-is}
@@ -75,21 +76,28 @@ queue_text_walk = F('queue_text', FOUR + [OUT, CURSOR, COUNT, WHICH], 'Cursor', 
            dict(f=row_line, **{'with': dict(same('names', 'table', 'out', 'cur', 'which'), records=('records', 'records-is')), 'need': '(record { row-fits = need .row-fits; name-fits = need .name-fits })', 'is': 'row-is', 'res': 'row', 'ends': {'out': 'out₁'}}),
            dict(f=record_lines, **{'with': dict(same('entries', 'payloads', 'out', 'count'), queue='which', place=at('row')), 'need': '(need .entries)', 'is': 'lines-is', 'res': 'lines'}),
            dict(f=past_queue, **{'with': dict(row=('row', 'row-is'), lines=('lines', 'lines-is')), 'is': 'res-is', 'res': 'cursor (lines .at) (row .passed)'})], uses=USES)
-Q = 'names payloads entries table count'
-queue_lines_walk = F('queue_lines', FOUR + [OUT, PLACE, COUNT, ('queues', 'plain', 'usize')], 'Cursor', 'acc-at i', {'out': 'out-at i'}, crate='listing', path='passes.queue_lines', requires=queue_lines.requires,
-    lets=[('acc-at', 'ℕ → Cursor', 'queuesAt (length out) place %s i' % Q, 'i'), ('out-at', 'ℕ → List ℕ', 'written out place (queuesTo %s i)' % Q, 'i')], typed=[('Cursor', 'Cur')], literals=FROM, post=LOOPED,
-    calls=[dict(f=queue_text, **{'with': dict(same('names', 'payloads', 'entries', 'table', 'out', 'count'), cur=SO_FAR, which=('(i .0)', '(lt-of-le-of-lt (i .1 .0) queues-is)')), 'need': '(queue-inside %s queues need (i .0) (ltb→lt (i .0) queues less))' % Q, 'is': 'is'})],
-    loop=cursor_loop(9, '(queues-zero (length out) place %s)' % Q, '(queues-next %s out place (i .0))' % Q, '(texts-zero %s out place)' % Q, '(texts-next %s out place (i .0))' % Q, 'texts-length %s out place %%s' % Q, count='queues', below='queues-is'), uses=USES)
 of = lambda k, name: field('Held', 'sums', 'sums-is', k, 'usize', name)
-list_walk = F('list', FOUR + LOG + [OUT], 'Listed', 'listed (length out₂) (behind (length out₂) (last .at) (length (endLines lost resumed bytes)))', {'out': 'written out₂ (last .at) (endLines lost resumed bytes)'}, crate='listing', path='passes.list', requires=LISTS, typed=[('Held', 'Hld'), ('Cursor', 'Cur'), ('Listed', 'Lst')],
-    lets=[('sums', 'Held', 'heldIn table'), ('at-first', 'ℕ', 'behind (length out) 0 (length (numberLine queuesWord (sums .queues)))'), ('out₁', 'List ℕ', 'written out 0 (numberLine queuesWord (sums .queues))'), ('last', 'Cursor', 'queuesAt (length out₁) at-first names payloads entries table (sums .records) (sums .queues)'),
-          ('out₂', 'List ℕ', 'written out₁ at-first (queuesTo names payloads entries table (sums .records) (sums .queues))')], post='(list-is names payloads entries table lost resumed bytes out (need .0))',
-    calls=[dict(f=held, **{'with': same('table'), 'is': 'sums-is', 'res': 'sums'}), dict(f=queues_line, **{'with': dict(out='out', queues=of(0, 'queues')), 'is': 'first-is', 'ends': {'out': 'out₁'}}),
-           dict(f=queue_lines, **{'with': dict(same('names', 'payloads', 'entries', 'table', 'out'), place=('at-first', 'first-is'), count=of(2, 'records'), queues=of(0, 'queues')), 'need': '(queues-fit %s (need .0))' % MEMORY, 'is': 'last-is', 'res': 'last', 'ends': {'out': 'out₂'}}),
-           dict(f=end_lines, **{'with': dict(same('out', 'lost', 'resumed', 'bytes'), place=at('last')), 'need': '(need .1)', 'is': 'res-is'})], uses=USES)
-list_walk.calls[3]['res'] = list_walk.res
+COUNT, QUEUES = of(2, 'records'), of(0, 'queues'); Q = 'names payloads entries table (sums .records)'
+DONE = lambda i: 'listed (length (out-at %s)) (behind (length (out-at %s)) (acc-at %s .at) (length (endLines lost resumed bytes)))' % (i, i, i); WRITTEN = lambda i: 'written (out-at %s) (acc-at %s .at) (endLines lost resumed bytes)' % (i, i)
+queues_loop = counted(dict(local=11, row='Cursor', at='acc-at', zero='(sym (queues-zero (length out₁) at-first %s))' % Q, next='(queues-next %s out₁ at-first (i .0))' % Q),
+    [dict(name='out', den='ℕ', at='out-at', zero='(sym (texts-zero %s out₁ at-first))' % Q, next='(texts-next %s out₁ at-first (i .0))' % Q, long='texts-length %s out₁ at-first %%s ∙ len-queues-line-out' % Q)], count='(sums .queues)', below=QUEUES[1], result=('', 'res-is'), aux='''
+  from-is : at-first < 2 ^ 64 → IsCursor (cursor at-first 0)
+  from-is is = LL.owes Cur.the-type Cur′.the-laws (cursor at-first 0) ((refl, is), ((refl, lit< tt), tt))
+
+  zero-is : at-first < 2 ^ 64 → IsCursor (acc-at 0)
+  zero-is is = subst IsCursor (sym (queues-zero (length out₁) at-first %s)) (from-is is)
+''' % Q, more=dict(after=True, start='(0, (zero-le, zero-is first-is))', known=[('sums-is', 'IsHeld sums'), ('first-is', 'at-first < 2 ^ 64'), ('len-queues-line-out', 'length out₁ ≡ length out')]))
+queues_loop['locals'][9] = ('Hld′.lowered sums', '')
+list_walk = F('list', FOUR + LOG + [OUT], 'Listed', DONE('i'), {'out': WRITTEN('i')}, crate='listing', path='passes.list', requires=LISTS, typed=[('Held', 'Hld'), ('Cursor', 'Cur'), ('Listed', 'Lst')], literals=['(typed-Cur (cursor at-first 0) (from-is first-is))'],
+    lets=[('sums', 'Held', 'heldIn table'), ('at-first', 'ℕ', 'behind (length out) 0 (length (numberLine queuesWord (sums .queues)))'), ('out₁', 'List ℕ', 'written out 0 (numberLine queuesWord (sums .queues))'),
+          ('acc-at', 'ℕ → Cursor', 'queuesAt (length out₁) at-first %s i' % Q, 'i'), ('out-at', 'ℕ → List ℕ', 'written out₁ at-first (queuesTo %s i)' % Q, 'i')],
+    post='(subst (λ (z : ℕ). Lists out (%s) (%s) (%s)) (sym at-end) (list-is names payloads entries table lost resumed bytes out (need .0)))' % (ALL, DONE('z'), WRITTEN('z')),
+    calls=[dict(f=held, **{'with': same('table'), 'is': 'sums-is', 'res': 'sums'}), dict(f=queues_line, **{'with': dict(out='out', queues=QUEUES), 'is': 'first-is', 'ends': {'out': 'out₁'}}),
+           dict(f=queue_text, **{'with': dict(same('names', 'payloads', 'entries', 'table', 'out'), cur=SO_FAR, count=COUNT, which=('(i .0)', '(lt-of-le-of-lt (i .1 .0) %s)' % QUEUES[1])), 'need': '(queue-inside %s (sums .queues) (queues-fit %s (need .0)) (i .0) (ltb→lt (i .0) (sums .queues) less))' % (Q, MEMORY), 'is': 'is'}),
+           dict(f=end_lines, **{'with': dict(same('out', 'lost', 'resumed', 'bytes'), place=field('Cursor', '(acc-at (i .0))', '(i .1 .1)', 0, 'usize', 'at')), 'need': '(need .1)', 'is': 'res-is', 'res': DONE('(i .0)'), 'ends': {'out': WRITTEN('(i .0)')}})],
+    loop=queues_loop, uses=USES + 'use mathlib.Core.Path.{_∙_}\n')
 FILES = [
-    Rules('RULES', 'listing', 'CallRules', 'A call rule for each function that the passes call, in the form of EntryRules.', [count_entry, held_of, entry_line, row_line, record_lines, past_queue, queue_text, held, queues_line, queue_lines, end_lines], USES),
+    Rules('RULES', 'listing', 'CallRules', 'A call rule for each function that the passes call, in the form of EntryRules.', [count_entry, held_of, entry_line, row_line, record_lines, past_queue, queue_text, held, queues_line, end_lines], USES),
     Rules('FACADE', 'listing', 'FacadeRules', 'A call rule for each function that a walk in another crate calls, in the form of EntryRules. The queue memory that `list!` takes is lent from a `&mut`,\n-- slice by slice.', [list_, refused], USES),
-    Walk('held_of_walk', held_of_walk), Walk('record_lines_walk', record_lines_walk), Walk('queue_text_walk', queue_text_walk), Walk('queue_lines_walk', queue_lines_walk), Walk('list_walk', list_walk),
+    Walk('held_of_walk', held_of_walk), Walk('record_lines_walk', record_lines_walk), Walk('queue_text_walk', queue_text_walk), Walk('list_walk', list_walk),
 ]

@@ -37,20 +37,20 @@ declared('queues', 'Head', 'Hed', 'struct')
 declared('record', 'MultiRecord', 'Mul', 'struct')
 declared('listing', 'Cursor', 'Cur', 'struct')
 declared('listing', 'Listed', 'Lst', 'enum')
-declared('card', 'Numbers', 'Nbr', 'struct')
-declared('doing', 'ItemStep', 'Stp', 'struct')
-declared('doing', 'Doing', 'Dng', 'struct')
-declared('deciding', 'AtPosition', 'Apn', 'enum')
-declared('deciding', 'Request', 'Rqt', 'enum')
-declared('plan', 'Plan', 'Pln', 'struct')
-declared('plan', 'Asked', 'Ask', 'struct')
-declared('plan', 'Called', 'Cld', 'enum')
-declared('plan', 'Question', 'Qst', 'enum')
-declared('plan', 'QuestionAnswer', 'Qsa', 'enum')
-declared('turn', 'Replaying', 'Rpl', 'struct')
-declared('turn', 'Turn', 'Trn', 'struct')
-declared('turn', 'ReplayAnswer', 'Rpa', 'enum')
-declared('turn', 'ReadAnswer', 'Rda', 'enum')
+declared('readout_text', 'Numbers', 'Nbr', 'struct')
+declared('call_effect', 'ItemStep', 'Stp', 'struct')
+declared('call_effect', 'Doing', 'Dng', 'struct')
+declared('call_decide', 'AtPosition', 'Apn', 'enum')
+declared('call_decide', 'Request', 'Rqt', 'enum')
+declared('call_write', 'Plan', 'Pln', 'struct')
+declared('call_write', 'Asked', 'Ask', 'struct')
+declared('call_write', 'Called', 'Cld', 'enum')
+declared('call_write', 'Question', 'Qst', 'enum')
+declared('call_write', 'QuestionAnswer', 'Qsa', 'enum')
+declared('read_step', 'Replaying', 'Rpl', 'struct')
+declared('read_step', 'Turn', 'Trn', 'struct')
+declared('read_step', 'ReplayAnswer', 'Rpa', 'enum')
+declared('read_step', 'ReadAnswer', 'Rda', 'enum')
 declared('frame', 'Reader', 'Rdr', 'struct')
 
 def row_uses():
@@ -147,23 +147,24 @@ use denote.Exit.{yes}
 '''
 # what holds a reference in a walk, and what a call rule has besides
 WALK_HOLD = '''
-use Rattle.record_table.proofs.Hold.{Hold, HoldShr}
-use Rattle.record_table.proofs.Local.{lends-array, array-back}
-use Rattle.own_table.proofs.Front.{Behind, lends-front, front-back}
-use Rattle.record_table.proofs.Loop.{tests, guards, holds, fails, not-fails, one-more}
+use Rattle.mem_entries.proofs.Hold.{Hold, HoldShr}
+use Rattle.mem_entries.proofs.Local.{lends-array, array-back}
+use Rattle.mem_entries.proofs.Literal.{big-lit}
+use Rattle.abi_call.proofs.Front.{Behind, lends-front, front-back}
+use Rattle.mem_entries.proofs.Loop.{tests, guards, holds, fails, not-fails, one-more}
 '''
 RULE_HOLD = '''
-use Rattle.record_table.proofs.Hold.{Hold, HoldShr, Lent, Shared, at-list, slice, lends, back, shares, unshared}
-use Rattle.record_table.proofs.Calls.{calls-kept}
+use Rattle.mem_entries.proofs.Hold.{Hold, HoldShr, Lent, Shared, at-list, slice, lends, back, shares, unshared}
+use Rattle.mem_entries.proofs.Calls.{calls-kept}
 '''
 # the facts of the declared types
 FACT_USES = '''
-use Rattle.record_table.proofs.Typed.{at-record, HoldRef, IsRecordEntry, IsSwept, IsSweepStep, IsChange, IsPlace, IsLower, IsUpper, IsRanged, IsSearch, IsHeld, IsSeen, IsHead}
+use Rattle.mem_entries.proofs.Typed.{at-record, HoldRef, IsRecordEntry, IsSwept, IsSweepStep, IsChange, IsPlace, IsLower, IsUpper, IsRanged, IsSearch, IsHeld, IsSeen, IsHead}
 use Rattle.listing.proofs.Typed.{IsCursor, IsListed}
-use Rattle.card.proofs.Typed.{IsNumbers}
-use Rattle.replays.proofs.Typed.{IsReplaying, IsTurn, IsReplayAnswer, IsReader, IsReadAnswer}
-use Rattle.apply.proofs.Typed.{IsMultiRecord, IsItemStep, IsDoing}
-use Rattle.lent.proofs.Typed.{IsAtPosition, IsRequest, IsPlan, IsCalled, IsAsked, IsQuestion, IsQuestionAnswer}
+use Rattle.readout_text.proofs.Typed.{IsNumbers}
+use Rattle.replay.proofs.Typed.{IsReplaying, IsTurn, IsReplayAnswer, IsReader, IsReadAnswer}
+use Rattle.call_apply.proofs.Typed.{IsMultiRecord, IsItemStep, IsDoing}
+use Rattle.contracts.proofs.Typed.{IsAtPosition, IsRequest, IsPlan, IsCalled, IsAsked, IsQuestion, IsQuestionAnswer}
 '''
 
 # a walk with a loop has these besides; a name that stands in two lines is kept in the first

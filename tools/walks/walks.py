@@ -326,8 +326,9 @@ class Gen:
             o.append('  abbrev %s : %s' % (nm, t)); o.append('  %s = %s' % (' '.join([nm] + v), d)); o.append('')
         if f.lemmas: o.append(f.lemmas.strip('\n')); o.append('')
         if f.said: f.res = 'r'
+        L = f.loop; after = L and L.get('after'); X = L if L and L['exits'][0] else None  # X: what is left is given by where the loop ends
         for p in refs:
-            if p.n in f.exits and not f.said and not f.loop: o.append('  abbrev end-%s : %s' % (p.n, g.den(p.t) if p.k == 'ref' else 'List ' + g.den(p.t))); o.append('  end-%s = %s' % (p.n, f.exits[p.n])); o.append('')
+            if p.n in f.exits and not f.said and not X: o.append('  abbrev end-%s : %s' % (p.n, g.den(p.t) if p.k == 'ref' else 'List ' + g.den(p.t))); o.append('  end-%s = %s' % (p.n, f.exits[p.n])); o.append('')
         ks, qs = tup(['κ-' + p.n for p in refs]), tup(['s-' + p.n for p in refs])
         gh = '((%s, %s, tt, a, at), tt)' % (ks, qs)
         o.append('  abbrev Post : Val → SProp 𝓤'); o.append('  Post = walkOf 𝓤 H A %s.ended stayed (%s.clauses 𝓤 H A mem run) .post %s' % (code, code, gh)); o.append('')
@@ -337,18 +338,17 @@ class Gen:
             o.append('  typed-%s x is = %s.lawful %s.the-type %s′.the-laws 𝓤 H A W%s .typed x _ is .0' % (nm, 'EL' if kind == 'enum' else 'LL', q, q, ' tt' if kind == 'enum' else '')); o.append('')
         # exits
         E = 'l-' if f.said else 'end-'
-        L = f.loop
-        ends = [h0(p, '(%s)' % f.exits[p.n] if L and p.kept else E + p.n if p.kept else p.n) for p in refs]
-        lens = [] if L else [p for p in refs if p.k == 'mut']
+        ends = [h0(p, '(%s)' % f.exits[p.n] if X and p.kept else E + p.n if p.kept else p.n) for p in refs]
+        lens = [] if L and not after else [p for p in refs if p.k == 'mut']; left = lambda p: '(%s)' % f.exits[p.n] if X else E + p.n
         resx = 'r' if f.said else '(%s)' % f.res
         rv = g.val(rt, resx)
         fx = None if f.loop and f.loop.get('res_is') else g.fact(rt, resx)
         ex0 = len(o); held = [(t[1], t[2]) for t in f.told] + [(x['no'], 'Holds (not (%s))' % x['test']) for x in f.guards]
-        o.append('  exits : %s%s%s%s%sent 𝓤 (⋆ 𝓤 H A (%s)) (Post (%s))' % (L['exits'][0] if L else ''.join('(%s : %s) ' % x for x in g.left(f)) + '→ ' if f.said else '', '' if f.said or L else ''.join(t + ' → ' for _, t in held), fx + ' → ' if fx else '', ''.join('length %s%s ≡ length %s → ' % (E, p.n, p.n) for p in lens), f.said + ' → ' if f.said else '', lst(ends), rv))
+        o.append('  exits : %s%s%s%s%sent 𝓤 (⋆ 𝓤 H A (%s)) (Post (%s))' % (L['exits'][0] if L else ''.join('(%s : %s) ' % x for x in g.left(f)) + '→ ' if f.said else '', '' if f.said or L else ''.join(t + ' → ' for _, t in held), fx + ' → ' if fx else '', ''.join('length %s ≡ length %s → ' % (left(p), p.n) for p in lens), f.said + ' → ' if f.said else '', lst(ends), rv))
         o.append('  exits %s%s%s' % (L['exits'][1] if L else ' '.join(x[0] for x in g.left(f)) + ' ' if f.said else ''.join(t + ' ' for t, _ in held), ('r-is ' if f.said else 'res-is ') if fx else '', ' '.join(['len-' + p.n for p in lens] + ['kept'] * bool(f.said))))
         o[-1] = o[-1].rstrip() + ' ='
         if f.opens: o.insert(len(o) - 1, '  unfolding ' + f.opens)
-        ws = tup([(f.exits[p.n] if L else E + p.n) if p.kept else 'tt' for p in f.params]); ls = tup([(L['lens'][p.n] if L else 'len-' + p.n) if p.k == 'mut' else 'tt' for p in f.params])
+        ws = tup([(f.exits[p.n] if X else E + p.n) if p.kept else 'tt' for p in f.params]); ls = tup([(L['lens'][p.n] if L and not after else 'len-' + p.n) if p.k == 'mut' else 'tt' for p in f.params])
         neq = (0 if rt == 'unit' else 1) + len([p for p in refs if p.kept])
         o.append('      qed W (%s) ∵' % lst(ends))
         o.append('      suffices ! _ (ends-at 𝓤 H A %s.ended stayed (%s.clauses 𝓤 H A mem run) W %s (%s) (%s) %s %s) $ says ! %s $' % (code, code, gh, rv, f.res if rt != 'unit' else 'tt', ws, ls, 'kept' if f.said else f.post or conj(['refl'] * neq, ', ')))
@@ -445,6 +445,16 @@ class Gen:
         for pn, fact, _, step in f.told:
             k = order.index('H-' + pn); back = [i + 1 if i < k else 0 if i == k else i for i in range(k + 1)]
             lines.append('move ! (%d ∷ []) $ %s (λ %s. move ! (%s) $' % (k, step, fact, lst(map(str, back)))); par += 1
+        def give_back():
+            if f.array: back_array()
+            lines.append('returns ! (look ! %d refl) $ %s' % (w.at(0), ' '.join('forget ! %d refl $' % w.at(i) for i in sorted(w.full, reverse=True))))
+            frees = []
+            for i in range(n):
+                if i == w.lent: frees.append('move ! (0 ∷ %d ∷ []) $ free1 ! $' % w.at(i)); w.front -= 1; order.remove('room')
+                else: frees.append('move ! (%d ∷ %d ∷ []) $ free1 ! $' % (w.at(i), w.at(i) + 1))
+            lines.append(' '.join(frees) + ' free0 ! $')
+            want = ['H-' + p.n for p in refs]
+            if order != want: lines.append('move ! (%s) $' % lst(str(order.index(x)) for x in want))
         def walk(s, last):
             nonlocal par, order, seen, passed
             if s[0] == 'seq': walk(s[1], False); walk(s[2], last); return
@@ -461,15 +471,7 @@ class Gen:
                 lines[start] = '(λ %s. ' % x['yes'] + lines[start]
                 w.full, order, par = keep; lines.append('(λ %s.' % x['no']); par += 1; return
             if s == 'return':
-                if f.array: back_array()
-                lines.append('returns ! (look ! %d refl) $ %s' % (w.at(0), ' '.join('forget ! %d refl $' % w.at(i) for i in sorted(w.full, reverse=True))))
-                frees = []
-                for i in range(n):
-                    if i == w.lent: frees.append('move ! (0 ∷ %d ∷ []) $ free1 ! $' % w.at(i)); w.front -= 1; order.remove('room')
-                    else: frees.append('move ! (%d ∷ %d ∷ []) $ free1 ! $' % (w.at(i), w.at(i) + 1))
-                lines.append(' '.join(frees) + ' free0 ! $')
-                want = ['H-' + p.n for p in refs]
-                if order != want: lines.append('move ! (%s) $' % lst(str(order.index(x)) for x in want))
+                give_back()
                 if f.said: lines.append('by ! (exits %s %s%s%s)' % (' '.join([f.answer[0] if f.answer else 'r'] + ['(%s)' % end[p.n] if ' ' in end[p.n] else end[p.n] for p in refs if p.kept]), (f.answer[1] if f.answer else 'r-is') + ' ' if fx else '', ''.join(lenof[p.n] + ' ' for p in lens), f.post) + ')' * par); return
                 lines.append('by ! (exits %s%s%s)' % (''.join(t + ' ' for t, _ in held), (f.res_is or 'res-is') + ' ' if fx else '', ' '.join(lenof[p.n] for p in lens)) + ')' * par); return
             if s[0] == 'assign':
@@ -551,48 +553,56 @@ class Gen:
                     of = t[3]; at = 'pointee (%s.the-row .written)' % ty(of)[:-5] if isinstance(of, list) and of[0] == 'tyNamed' else ty(of)
                     return 'tyRef %s %s (%s)' % ('(named %s)' % t[1][1] if isinstance(t[1], list) else t[1], t[2], at)
                 if t[0] == 'tyStruct': return 'sliceTy (%s)' % ty(t[2][1])
+                if t[0] == 'tyArray': return 'tyArray (%s) %s' % (ty(t[1]), t[2][1])
                 return '?' + str(t)[:40]
             types = [ty(t) for t in w.locals]
             cell = lambda i, v: '‵ (fat fullShare (%s) %s 0 (%s))' % (types[i], sub(i), v)
+            a = f.array; back = (['H-' + a['name'], 'lent'] if a else []) + ['H-' + p.n for p in refs]
+            own = lambda v: '‵ (Hold %s (α ∷ []) fullShare γ %s 0 %s %s)' % (g.row(a['row']), loc, a['count'], v)
+            at_head = lambda d, else_: {x: d[x] if x in L['refs'] else else_(x) for x in [p.n for p in refs] + ([a['name']] if a else [])}
+            def reorders():
+                nonlocal order
+                if order != back: lines.append('move ! (%s) $' % lst(str(order.index(x)) for x in back)); order = list(back)
             def rewrites(rs):
                 for where, den, eq in rs:
                     if isinstance(where, int): lines.append('rewrite ! %d (λ (z : %s). %s) %s refl $' % (w.at(where), den[0], cell(where, den[1]), eq))
+                    elif a and where == a['name']: lines.append('rewrite ! %d (λ (l : %s). %s) %s refl $' % (order.index('H-' + where), den[0], own('l'), eq))
                     else:
                         p = [p for p in refs if p.n == where][0]
                         lines.append('rewrite ! %d (λ (l : %s). %s) %s refl $' % (order.index('H-' + where), den[0], h0(p, 'l'), eq))
             # before the loop
             for s in sts[:k]: walk(s, False)
-            back = ['H-' + p.n for p in refs]
-            if order != back: lines.append('move ! (%s) $' % lst(str(order.index(x)) for x in back)); order = back
-            rewrites(L['enters'])
-            if L.get('drops'): lines.append(' '.join('forget ! %d refl $' % w.at(i) for i in sorted(L['drops'], reverse=True))); w.full -= set(L['drops'])
+            reorders(); rewrites(L['enters'])
+            drops = set(L.get('drops', [])) | (w.full - set(range(1, w.params + 1)) - set(L['locals']))
+            if drops: lines.append(' '.join('forget ! %d refl $' % w.at(i) for i in sorted(drops, reverse=True))); w.full -= drops
             head = set(w.full)
-            lines.append('looped ' + ' '.join(sub(i) for i in range(n)) + ''.join(' ' + x for x, _ in L.get('given', [])) + ')' * par)
+            lines.append('looped ' + ' '.join(sub(i) for i in range(n)) + (' α γ' if a else '') + ''.join(' ' + x for x, _ in L.get('known', []) + L.get('given', [])) + ')' * par)
             o += [b + l for l in lines]; o.append('')
             # a turn
-            order = ['H-' + p.n for p in refs]; par = 0; lines = []; end = {p.n: L['refs'].get(p.n, p.n) for p in refs}; lenof = {p.n: (L['turn_lens'][p.n] if 'turn_lens' in L else L['lens'][p.n].replace(' i', ' (i .0)')) if p.n in L['refs'] else 'refl' for p in refs}
+            def stands():
+                return at_head(L['refs'], lambda x: L['own'][0] if a and x == a['name'] else x), at_head(L.get('turn_lens') or {x: t.replace(' i', ' (i .0)') for x, t in L['lens'].items()}, lambda x: L['own'][1] if a and x == a['name'] else 'refl')
+            par = 0; lines = []; end, lenof = stands()
             vals = {i: mv(p) for i, p in enumerate(f.params, 1)}
             for i, (v, t) in L['locals'].items(): vals[i] = v; kinds[i] = t
             walk(test, False); lines.append('tests ! %s' % w.opd(cond[1])); over = set(w.full); mark = len(lines)
             for s in rest[:-1]: walk(s, False)
             walk(rest[-1], True)
-            back = ['H-' + p.n for p in refs]
-            if order != back: lines.append('move ! (%s) $' % lst(str(order.index(x)) for x in back)); order = back
-            rewrites(L['turned'])
+            reorders(); rewrites(L['turned'])
             lines.append(' '.join('forget ! %d refl $' % w.at(i) for i in sorted(w.full - head, reverse=True)))
             lines.append('again ! Less At i %s' % L['again'] + ')' * (par + 1))
             lines[mark] = '(λ %s. ' % L.get('holds', 'less') + lines[mark]
             # the loop is left
-            par = 0; w.full = set(over); mark = len(lines)
+            par = 0; w.full = set(over); mark = len(lines); end, lenof = stands(); end.update(L.get('ends', {}))
             lines.append('(λ over. exec ! C Λ En body.%s (atRet En Post) $' % L['rest'])
+            rewrites(L.get('leaves', []))
             for i, (v, t) in L['locals'].items(): kinds[i] = t
             for s in sts[k + 1:-1]: walk(s, False)
-            lines.append('returns ! (look ! %d refl) $ %s' % (w.at(0), ' '.join('forget ! %d refl $' % w.at(i) for i in sorted(w.full, reverse=True))))
-            lines.append(' '.join('move ! (%d ∷ %d ∷ []) $ free1 ! $' % (w.at(i), w.at(i) + 1) for i in range(n)) + ' free0 ! $')
-            lines.append('by ! (exits %s))' % L['left'])
-            t = ['    module _ (%s : ℕ) where' % ' '.join(sub(i) for i in range(n)), '      abbrev En : Env 𝓤 H', '      En = %s' % lst('(%s, %s)' % (types[i], sub(i)) for i in range(n)), '']
-            at = [h0(p, '(%s)' % L['refs'][p.n] if p.n in L['refs'] else p.n) for p in refs]
-            for i in reversed(range(n)): at += [cell(i, vals[i]) if i in head else '‵ (froom (%s) %s 0)' % (types[i], sub(i)), '‵ (fdies (%s) %s)' % (types[i], sub(i))]
+            lent_at = w.lent; give_back(); w.lent = lent_at
+            lines.append('by ! (exits %s))' % ' '.join([L['left']] * bool(L['left']) + ['(%s)' % lenof[p.n] if ' ' in lenof[p.n] else lenof[p.n] for p in lens]) + ')' * par)
+            t = ['    module _ (%s : ℕ)%s where' % (' '.join(sub(i) for i in range(n)), (' (α : ℕ) (γ : GName)' if a else '') + ''.join(' (%s : %s)' % x for x in L.get('known', []))), '      abbrev En : Env 𝓤 H', '      En = %s' % lst('(%s, %s)' % (types[i], sub(i)) for i in range(n)), '']
+            at = [own('(%s)' % stands()[0][a['name']]), '‵ (flent (α ∷ []) (Held %s %s %s 0 γ))' % (g.row(a['row']), a['count'], loc)] if a else []
+            at += [h0(p, '(%s)' % L['refs'][p.n] if p.n in L['refs'] else p.n) for p in refs]
+            for i in reversed(range(n)): at += ['‵ (fdies (%s) %s)' % (types[i], sub(i))] if i == w.lent else [cell(i, vals[i]) if i in head else '‵ (froom (%s) %s 0)' % (types[i], sub(i)), '‵ (fdies (%s) %s)' % (types[i], sub(i))]
             t += ['      -- the invariant: the references, then the locals from the last to the first', '      abbrev At : Where → List (Item 𝓤)', '      At i = %s' % lst(at), '']
             t += ['      abbrev Turned : Where → Out → SProp 𝓤', '      Turned i = afterTurn 𝓤 H (Below 𝓤 H A Less At i) (afterBlock 𝓤 H (afterSeq 𝓤 H (Wp 𝓤 H C Λ En body.%s (atReturn 𝓤 H En Post)) (atReturn 𝓤 H En Post)))' % L['rest'], '']
             t += ['      turns : (i : Where) → Sq W (At i) (runs C Λ En body.%s (anyQ (Turned i)))' % L['turn'], '      unfolding afterTurn', '      turns i ='] + ['          ' + l for l in lines]

@@ -71,7 +71,7 @@ byte-share c b n bs h e =
     up : bitXor c b / 256 ≡ c / 256
     up = xor-shr c b 8 ∙ ap (bitXor (c / 256)) (div-eq-of-lt {n = b} {m = 256} h) ∙ xor-zero-r (c / 256)
 
--- with nothing behind it
+-- with nothing after it
 pub byte-alone : (c b : ℕ) → b < 256 → bitXor (run (bitXor c b % 256) (bits (zeros 1))) (c / 2 ^ 8) ≡ run c (bitsOf 8 b)
 byte-alone c b h =
     ap (bitXor (run (bitXor c b % 256) (bits (zeros 1)))) (sym (run-nil (c / 256)))

@@ -1,3 +1,4 @@
+-- Definition (01, "One hit frame").
 -- A burst of changed bits (01, "One hit frame": "all changed bits lie within 32 adjacent ones"; ORDER, demand 3: "lowest bit of a byte first").
 -- Assumes nothing.
 use mathlib.Core.Path.{_≡_}

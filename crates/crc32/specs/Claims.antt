@@ -1,3 +1,4 @@
+-- Claim.
 -- What is promised of CRC-32 beside the functions' contracts. Each claim is proved in proofs/ under its name with hyphens.
 -- Assumes nothing.
 use mathlib.Core.Path.{_≡_}

@@ -1,3 +1,4 @@
+-- Definition (01, "Frames").
 -- CRC-32 as IEEE 802.3 has it, bit by bit (01: "The checksum is CRC-32 over the type byte, then the data"; ORDER, demand 2: "CRC-32 (IEEE 802.3)").
 -- The register is a number below 2 ^ 32, the message a list of bits. The polynomial is reflected: the register's lowest bit is the one that
 -- leaves it, and a byte's lowest bit comes first.

@@ -1,3 +1,4 @@
+-- Helper: for proofs; no promise rests on reading it.
 -- The tables by which bytes go into the register at once: the byte table of 256 entries, and the wide table, 16 parts of 256 entries end to end,
 -- of which the byte table is the first.
 -- Assumes nothing.
@@ -30,7 +31,7 @@ wideTable = wideFrom 0 4096
 abbrev pub TableReady : List ℕ → Type 0
 TableReady t = (t ≡ []) ⊎ (t ≡ wideTable)
 
--- a slice of so many entries is as long as the wide table
+-- a slice of this many entries is as long as the wide table
 abbrev pub holdsTable : ℕ → Bool
 holdsTable n = eqb n 4096
 
@@ -47,7 +48,7 @@ pub record Starts (n : ℕ) (t : List ℕ) : Type 0 where
   pub long : n ≤ length t
   pub right : (j : ℕ) → j < n → getD t j 0 ≡ wideEntry j
 
--- t₀ has become t, which starts with the wide table's first n entries and is t₀ behind them
+-- t₀ has become t, which starts with the wide table's first n entries and is t₀ after them
 pub record Grown (n : ℕ) (t₀ t : List ℕ) : Type 0 where
   pub same-length : length t ≡ length t₀
   pub starts : Starts n t

@@ -72,7 +72,7 @@ entered-at c (suc i) (x ∷ xs) h =
     entered-at (c / 256) i xs (le-of-suc-le-suc h)
     ∙ ap (λ (y : ℕ). bitXor (getD xs i 0) (y % 256)) (shr-shr c 8 (8 * i) ∙ ap (λ (n : ℕ). c / 2 ^ n) (omega arith))
 
--- behind the fourth they are as they were
+-- after the fourth they are as they were
 pub entered-later : (c i : ℕ) (xs : List ℕ) → c < 2 ^ 32 → 4 ≤ i → i < length xs → getD (entered c xs) i 0 ≡ getD xs i 0
 entered-later c i xs h l m =
     entered-at c i xs m

@@ -105,7 +105,7 @@ sums-run (suc i) n d u b f l m h =
     ∙ all-same _ _
     (λ k g. sym (take-next (k + i) u (omega arith)) ∙ ap (λ (j : ℕ). run 0 (bits (take j u))) (sym (add-suc k i)))
 
--- behind n bytes of u the next k go in from a register of zero, and that register goes through as many zeros
+-- after n bytes of u the next k go in from a register of zero, and that register goes through as many zeros
 parts-run : (k n : ℕ) (u : List ℕ) → 300 + n ≤ length u → k ≤ 300
     → run 0 (bits (take (k + n) u)) ≡ bitXor (run 0 (bits (take k (take 300 (drop n u))))) (zeroSteps (8 * k) (run 0 (bits (take n u))))
 parts-run k n u h l =

@@ -1,4 +1,4 @@
--- Sums over the exponents, and why the register does not tell the fold from the message: the sum over the exponents k of a register behind k zero bytes
+-- Sums over the exponents, and why the register does not tell the fold from the message: the sum over the exponents k of a register after k zero bytes
 -- is 0, for each register that a message leaves (`gone`). It is so for the polynomial, by computing, and it stays so at each step.
 -- Assumes nothing.
 use mathlib.Core.Path.{_≡_, refl, sym, ap, ap₂, _∙_}
@@ -75,7 +75,7 @@ summed-byte (k ∷ ks) r x h =
 
 -- ---- what is gone
 
--- the sum over ks of a register behind so many zero bytes
+-- the sum over ks of a register after this many zero bytes
 abbrev pub behind : List ℕ → ℕ → ℕ
 behind ks c = summed ks (λ k. zeroSteps (8 * k) c)
 

@@ -1,3 +1,4 @@
+-- Helper: for proofs; no promise rests on reading it.
 -- Folding: each byte of a message is added to later ones, until all that is left stands in the last 300.
 -- Assumes nothing.
 use mathlib.Core.Path.{_≡_}
@@ -34,7 +35,7 @@ entered c (x ∷ xs) = bitXor x (c % 256) ∷ entered (c / 256) xs
 abbrev pub Clear : List ℕ → Type 0
 Clear u = (j : ℕ) → j < 300 → getD u j 0 ≡ 0
 
--- u starts with 300 zero bytes, and behind them stands the fold of d's first n bytes: the byte at i is the sum of what u has at i + k, over the exponents k
+-- u starts with 300 zero bytes, and after them stands the fold of d's first n bytes: the byte at i is the sum of what u has at i + k, over the exponents k
 pub record Folded (n : ℕ) (d u : List ℕ) : Type 0 where
   pub clear : Clear u
   pub sums : (i : ℕ) → i < n → getD d i 0 ≡ summed exponents (λ k. getD u (k + i) 0)

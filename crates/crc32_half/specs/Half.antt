@@ -1,3 +1,4 @@
+-- Helper: for proofs; no promise rests on reading it.
 -- The half table: 8 parts of 32 entries end to end. A part has 16 entries for the low half of a byte and 16 for its high half.
 -- Assumes nothing.
 use mathlib.Core.List.{List, [], _∷_}

@@ -17,13 +17,13 @@ use Rattle.frame.specs.Frame.{typeNumber}
 use Rattle.frame.specs.Block.{padding, blocks}
 use Rattle.frame.specs.Reader.{fresh}
 use Rattle.frame.proofs.Headers.{header}
-use Rattle.recordlog.specs.Write.{framesOf, bytesOf, recordBytes, placeAfter, placeAll, recordsBytes}
-use Rattle.recordlog.specs.Read.{whole, endOfLog, readsFrom, readAll, resume}
-use Rattle.recordlog.specs.Claims.{Each}
+use Rattle.recordlog.specs.Write.{framesOf, bytesOf, recordBytes, placeAfter}
+use Rattle.recordlog.specs.Claims.{placeAll, recordsBytes, readAll, Each}
+use Rattle.recordlog.specs.Read.{whole, endOfLog, readsFrom, resume}
 use Rattle.recordlog.proofs.Frames.{endOf, length-bytes, framesAll, length-record, length-written}
 use Rattle.recordlog.proofs.Needed.{needs}
-use Rattle.cut.specs.Cut.{cutLog, Left, headed, nothing, torn, left, given, writeAll, covered, givenAfter}
-use Rattle.cut.specs.Claims.{CutWritten}
+use Rattle.cut.specs.Cut.{Left, headed, nothing, torn, left, covered}
+use Rattle.cut.specs.Claims.{cutLog, given, writeAll, givenAfter, CutWritten}
 use Rattle.cut.proofs.See.{beyond}
 use Rattle.cut.proofs.State.{Fits, Clean, Headed, Torn, State, is-clean, is-headed, is-torn, state}
 use Rattle.cut.proofs.Reading.{finished-all, endsAt, clean-gives, headed-gives, torn-on-gives, clean-read, headed-read, torn-read, tornPlace, beyond-inside, beyond-fits, cut-blocks}
@@ -105,7 +105,7 @@ module _ (n limit : ℕ) (before : List (List ℕ)) (xs tail log : List ℕ) (fi
           subst (λ (l : List ℕ). Written front e (s .k) tail rs (writeAll l q rs)) (sym (s .is ∙ with-rest (zeros (s .k) ++ tail)))
           (written front tail e (s .k) front-length rs q g (omega (arith, s .total)))
 
-  -- behind the block of a header that has no type
+  -- after the block of a header that has no type
   torn-after : (s : Torn n before xs tail log) → q ≡ beyond (endOf 0 (s .frames)) → blocks log ≡ n → (i : ℕ)
       → readsFrom (writeAll log q rs) limit fresh .answers ≡ map whole before ++ (given (torn i) xs ++ (map whole rs ++ (endOfLog ∷ [])))
   torn-after s g size i =

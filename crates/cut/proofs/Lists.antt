@@ -1,4 +1,4 @@
--- A list of bytes cut at a place, zeros behind it: by parts.
+-- A list of bytes cut at a place, zeros after it: by parts.
 -- Assumes nothing.
 use mathlib.Core.Path.{_≡_, refl, sym, ap, ap₂, _∙_}
 use mathlib.Core.Logic.{_⊎_, inl, inr}
@@ -88,7 +88,7 @@ cut-absent (suc m) [] e = cut-all (suc m) [] (omega arith)
 cut-absent (suc m) (x ∷ w) e =
     cut-cons m x w ∙ ap₂ (λ (a : ℕ) (b : List ℕ). a ∷ b) (eqb-true x 0 (and-left (eqb x 0) (allZero (take m w)) e)) (cut-absent m w (and-right (eqb x 0) (allZero (take m w)) e))
 
--- a byte behind the cut
+-- a byte after the cut
 pub cut-behind : (m i : ℕ) (w : List ℕ) → m ≤ i → getD (cutAt m w) i 0 ≡ 0
 cut-behind zero i w h = ap (λ (a : List ℕ). getD a i 0) (cut-none w) ∙ none (length w) i
   where

@@ -8,11 +8,11 @@ use lib.ListN.{length, take, drop, length-append}
 use lib.Seq.{take-append-le, drop-drop, drop-at}
 use Rattle.slices.specs.Bytes.{zeros}
 use Rattle.frame.proofs.Step.{drop-zeros}
-use Rattle.recordlog.specs.Write.{placeAll, recordsBytes, laid}
+use Rattle.recordlog.specs.Claims.{placeAll, recordsBytes, laid}
 use Rattle.recordlog.proofs.Frames.{length-written}
 use Rattle.recordlog.proofs.Back.{log-length}
-use Rattle.cut.specs.Cut.{cutAt, cutLog}
-use Rattle.cut.specs.Claims.{CutOfWriting}
+use Rattle.cut.specs.Cut.{cutAt}
+use Rattle.cut.specs.Claims.{cutLog, CutOfWriting}
 use Rattle.recordlog.proofs.Append.{place-append}
 
 pub cut-of-writing : CutOfWriting

@@ -1,4 +1,4 @@
--- Reading a cut log, with or without records written behind the cut.
+-- Reading a cut log, with or without records written after the cut.
 -- Assumes nothing.
 use mathlib.Core.Path.{_≡_, refl, sym, ap, subst, _∙_}
 use mathlib.Core.Bool.{true, cond}
@@ -15,15 +15,15 @@ use Rattle.frame.specs.declared.Corruption.the-variants.{WrongChecksum as wrong
 use Rattle.frame.specs.Reader.{fresh, place, readFrame}
 use Rattle.frame.proofs.Headers.{header}
 use Rattle.frame.proofs.Step.{start-fits, drop-zeros}
-use Rattle.recordlog.specs.Write.{Frame, framesOf, bytesOf, placeAll}
-use Rattle.recordlog.specs.Read.{Answer, whole, corruption, endOfLog, readsFrom, readAll}
-use Rattle.recordlog.specs.Claims.{Each}
+use Rattle.recordlog.specs.Write.{Frame, framesOf, bytesOf}
+use Rattle.recordlog.specs.Claims.{placeAll, readAll, Each}
+use Rattle.recordlog.specs.Read.{Answer, whole, corruption, endOfLog, readsFrom}
 use Rattle.recordlog.proofs.Sees.{corrupted, assemble, Sees, Any, finished, Gives, readsFrom-sees}
 use Rattle.recordlog.proofs.Frames.{endOf, end-ge, framesAll, laid-all, end-all}
 use Rattle.recordlog.proofs.Seen.{event, behind-padding, sees-frames, sees-rest, rest-there}
 use Rattle.recordlog.proofs.Back.{fresh-at, Near, near}
-use Rattle.cut.specs.Cut.{cutLog, Left, complete, headed, nothing, torn, left, given, cutAnswers}
-use Rattle.cut.specs.Claims.{Cutting, CutRead}
+use Rattle.cut.specs.Cut.{Left, complete, headed, nothing, torn, left}
+use Rattle.cut.specs.Claims.{cutLog, given, cutAnswers, Cutting, CutRead}
 use Rattle.cut.proofs.See.{beyond, spoiltAt, behind-headed, sees-headed, sees-torn, sees-torn-on, torn-left}
 use Rattle.cut.proofs.Dropped.{restarts-bad, restarts-records, puts-records}
 use Rattle.cut.proofs.State.{Fits, Clean, Headed, Torn, State, is-clean, is-headed, is-torn, log-size, state}
@@ -137,7 +137,7 @@ module _ {n : ℕ} (limit : ℕ) {before : List (List ℕ)} {xs tail log₀ : Li
       behind-padding log (s .seven ++ rest) (endOf 0 (s .frames)) (padding (endOf 0 (s .frames))) refl
       (rest-there log (s .frames) 0 (zeros (padding (endOf 0 (s .frames))) ++ (s .seven ++ rest)) (s .stands) is)
 
-  -- no records behind it
+  -- no records after it
   torn-sees : drop (beyond (endOf 0 (s .frames))) log ≡ zeros k ++ tail → beyond (endOf 0 (s .frames)) + k ≡ n * 32768
       → Sees log (λ r. place r ≡ place (readFrame log (spoiltAt (endOf 0 (s .frames))) .reader)) fresh (map event (s .frames) ++ (corrupted unknownType ∷ []))
   torn-sees d w =
@@ -156,7 +156,7 @@ module _ {n : ℕ} (limit : ℕ) {before : List (List ℕ)} {xs tail log₀ : Li
       (s .puts limit fit (corrupted unknownType ∷ []) (restarts-bad limit unknownType []) ∙ (unfold assemble in refl))
       (readsFrom-sees log limit (omega arith) (torn-sees d w))
 
-  -- records behind its block
+  -- records after its block
   torn-on-sees : (rs : List (List ℕ)) → drop (beyond (endOf 0 (s .frames))) log ≡ bytesOf (framesAll (beyond (endOf 0 (s .frames))) rs) ++ (zeros k ++ tail)
       → placeAll (beyond (endOf 0 (s .frames))) rs + k ≡ n * 32768
       → Sees log Any fresh (map event (s .frames) ++ (corrupted unknownType ∷ map event (framesAll (beyond (endOf 0 (s .frames))) rs)))

@@ -69,7 +69,7 @@ module _ (log : List ℕ) (p : ℕ) (r : Reader) (a : At log p r) (t : FrameType
 
 -- ---- a part of a header
 
--- the reader that the unreadable header behind p leaves, and where the frames behind its block begin
+-- the reader that the unreadable header after p leaves, and where the frames after its block begin
 abbrev pub spoiltAt : ℕ → Reader
 spoiltAt p = record { block = (p + padding p) / 32768; cursor = (p + padding p) % 32768; spoilt = true }
 
@@ -106,14 +106,14 @@ module _ (log : List ℕ) (p : ℕ) (r : Reader) (a : At log p r) (w rest : List
   arrives : Arrives log (beyond p) (spoiltAt p)
   arrives = spoilt-arrives log (beyond p) (spoiltAt p) refl (omega (arith, beyond-none p))
 
-  -- zeros behind its block, or no block
+  -- zeros after its block, or no block
   pub sees-torn : {Z : Reader → Type 0} (k : ℕ) (tail : List ℕ) → drop (beyond p) log ≡ zeros k ++ tail → beyond p + k ≡ blocks log * 32768
       → Z (readFrame log (spoiltAt p) .reader) → Sees log Z r (corrupted unknownType ∷ [])
   sees-torn {Z} k tail d h z =
       bad unknownType (ap (λ (y : FrameRead). y .answer) read-torn)
       (subst (λ (y : FrameRead). Sees log Z (y .reader) []) (sym read-torn) (sees-zeros log (beyond p) (spoiltAt p) k tail arrives d h z))
 
-  -- frames behind its block
+  -- frames after its block
   pub sees-torn-on : (gs : List Frame) (k : ℕ) (tail : List ℕ) → Laid (beyond p) gs → drop (beyond p) log ≡ bytesOf gs ++ (zeros k ++ tail)
       → endOf (beyond p) gs + k ≡ blocks log * 32768 → Sees log Any r (corrupted unknownType ∷ map event gs)
   unfolding endOf bytesOf

@@ -10,13 +10,15 @@ use Rattle.slices.specs.Bytes.{zeros}
 use Rattle.frame.specs.Frame.{frameBytes}
 use Rattle.frame.specs.Block.{padding}
 use Rattle.frame.proofs.Headers.{length-frame}
-use Rattle.recordlog.specs.Write.{Frame, framesOf, bytesOf, placeAfter, placeAll, laid}
+use Rattle.recordlog.specs.Write.{Frame, framesOf, bytesOf, placeAfter}
+use Rattle.recordlog.specs.Claims.{placeAll, laid}
 use Rattle.recordlog.proofs.Append.{place-append}
 use Rattle.recordlog.proofs.Frames.{Stands, Laid, after, length-bytes, bytes-append, framesAll, laid-all, end-all, all-append, written-frames}
-use Rattle.cut.specs.Cut.{cutAt, cutLog, stored, Unfit, UnfitFrame, complete, leftOf, left}
+use Rattle.cut.specs.Cut.{cutAt, stored, Unfit, UnfitFrame, complete, leftOf, left}
+use Rattle.cut.specs.Claims.{cutLog}
 use Rattle.cut.proofs.Lists.{cut-none, cut-all, cut-append, cut-zeros, cut-stored, missing-some}
 
--- ---- frames one behind the other, cut at c
+-- ---- frames one after the other, cut at c
 
 -- what stands for a frame
 abbrev pub remains : ℕ → Frame → List ℕ
@@ -34,7 +36,7 @@ cut-frame c p f fs h =
     ∙ cut-append (c - f .start) (frameBytes (f .kind) (f .content)) (bytesOf fs)
     ∙ ap (λ (m : ℕ). remains c f ++ cutAt m (bytesOf fs)) b)
 
--- the frames before the first that does not count as stored, that one, and those behind it
+-- the frames before the first that does not count as stored, that one, and those after it
 pub record Broken (c p : ℕ) (fs : List Frame) : Type 0 where
   pub pre : List Frame
   pub at : Frame
@@ -82,7 +84,7 @@ split-on c p f fs h s (broken u) =
     rest : List ℕ
     rest = zeros (u .at .padding) ++ (remains c (u .at) ++ zeros (length (bytesOf (u .post))))
 
--- the first frame does not: all behind it is missing
+-- the first frame does not: all after it is missing
 split-here : (c p : ℕ) (f : Frame) (fs : List Frame) → Stands p f → stored c f ≡ false → Broken c p (f ∷ fs)
 unfolding left bytesOf
 split-here c p f fs h s =

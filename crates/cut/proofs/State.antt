@@ -15,16 +15,16 @@ use Rattle.crc32.specs.Crc.{crc32}
 use Rattle.frame.specs.Frame.{typeNumber, frameBytes, allZero}
 use Rattle.frame.specs.Block.{padding}
 use Rattle.frame.proofs.Headers.{header, le-sum}
-use Rattle.recordlog.specs.Write.{Frame, framesOf, bytesOf, placeAfter, placeAll, laid}
+use Rattle.recordlog.specs.Write.{Frame, framesOf, bytesOf, placeAfter}
+use Rattle.recordlog.specs.Claims.{placeAll, laid, Each}
 use Rattle.recordlog.specs.Read.{whole, idle}
-use Rattle.recordlog.specs.Claims.{Each}
 use Rattle.recordlog.proofs.Sees.{Event, assemble}
 use Rattle.recordlog.proofs.Frames.{Stands, Laid, after, endOf, end-append, laid-left, laid-right, laid-append, length-bytes, bytes-append, framesAll, laid-all, end-all, owned}
 use Rattle.recordlog.proofs.Seen.{event}
 use Rattle.recordlog.proofs.Assemble.{Restarts}
 use Rattle.recordlog.proofs.Back.{log-length}
-use Rattle.cut.specs.Cut.{cutLog, Left, complete, headed, nothing, torn, leftWhen, left, given, covered}
-use Rattle.cut.specs.Claims.{Cutting}
+use Rattle.cut.specs.Cut.{Left, complete, headed, nothing, torn, leftWhen, left, covered}
+use Rattle.cut.specs.Claims.{cutLog, given, Cutting}
 use Rattle.cut.proofs.Lists.{length-cut}
 use Rattle.recordlog.proofs.Append.{place-append}
 use Rattle.cut.proofs.Shape.{remains, Broken, Unbroken, Split, unbroken, broken, split-frames, cut-log}

@@ -12,10 +12,11 @@ use Rattle.slices.specs.Put.{put}
 use Rattle.slices.proofs.Put.{put-none, put-on, put-put, put-here, length-put}
 use Rattle.frame.specs.Block.{padding}
 use Rattle.frame.proofs.Step.{drop-zeros}
-use Rattle.recordlog.specs.Write.{recordBytes, placeAfter, placeAll, recordsBytes, bytesOf}
+use Rattle.recordlog.specs.Write.{recordBytes, placeAfter, bytesOf}
+use Rattle.recordlog.specs.Claims.{placeAll, recordsBytes}
 use Rattle.recordlog.proofs.Frames.{framesAll, written-frames, length-record, length-written}
 use Rattle.recordlog.proofs.Resume.{resumes-same}
-use Rattle.cut.specs.Cut.{writeAll}
+use Rattle.cut.specs.Claims.{writeAll}
 
 -- one after the other is all at once
 pub write-all : (rs : List (List ℕ)) (log : List ℕ) (q : ℕ) → q ≤ length log → placeAll q rs ≤ length log → writeAll log q rs ≡ put log q (recordsBytes q rs)
@@ -32,7 +33,7 @@ write-all (ys ∷ rs) log q g h =
     same : length (put log q (recordBytes q ys)) ≡ length log
     same = length-put log q (recordBytes q ys) (omega (arith, low, length-record q ys))
 
--- from behind the padding of a place
+-- from after the padding of a place
 same-records : (e : ℕ) (ys : List ℕ) (rs : List (List ℕ))
     → (recordsBytes e (ys ∷ rs) ≡ zeros (padding e) ++ recordsBytes (e + padding e) (ys ∷ rs)) × (placeAll (e + padding e) (ys ∷ rs) ≡ placeAll e (ys ∷ rs))
 unfolding recordsBytes placeAll
@@ -84,7 +85,7 @@ module _ (front tail : List ℕ) (e k : ℕ) (len : length front ≡ e) where
   written-here : (rs : List (List ℕ)) → placeAll e rs ≤ e + k → Written front e k tail rs (writeAll (front ++ (zeros k ++ tail)) e rs)
   written-here rs h = by-put rs (writeAll (front ++ (zeros k ++ tail)) e rs) h (write-all rs (front ++ (zeros k ++ tail)) e (omega (arith, log-length)) (omega (arith, log-length)))
 
-  -- behind its padding
+  -- after its padding
   written-padded : (ys : List ℕ) (rs : List (List ℕ)) → placeAll (e + padding e) (ys ∷ rs) ≤ e + k
       → Written front e k tail (ys ∷ rs) (writeAll (front ++ (zeros k ++ tail)) (e + padding e) (ys ∷ rs))
   written-padded ys rs h =

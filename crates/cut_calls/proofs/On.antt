@@ -7,9 +7,9 @@ use Prim.Native.Nat.{ℕ, suc, _+_, _*_, _/_, _≤_}
 use native.Mathlib.Omega.{arith}
 use lib.Dec.{eqb}
 use lib.ListN.{length, take, drop}
-use Rattle.recordlog.specs.Write.{Frame, framesOf, placeAll}
-use Rattle.recordlog.specs.Read.{whole, endOfLog, readAll, resume}
-use Rattle.recordlog.specs.Claims.{Each}
+use Rattle.recordlog.specs.Write.{Frame, framesOf}
+use Rattle.recordlog.specs.Claims.{placeAll, readAll, Each}
+use Rattle.recordlog.specs.Read.{whole, endOfLog, resume}
 use Rattle.record.specs.Record.{Record, encode}
 use Rattle.record.specs.Fits.{WellFormed}
 use Rattle.queues.specs.Queues.{Queue, Capacities}
@@ -17,18 +17,19 @@ use Rattle.calls.specs.State.{State}
 use Rattle.calls.specs.Calls.{callOf}
 use Rattle.calls.specs.Reading.{ReadAnswer, gaveRecord, gaveEnd, answerOf, readings}
 use Rattle.calls.specs.Replay.{Outcome, left, andThen, replayAnswers, replayRecords, replayOf}
-use Rattle.calls.specs.Machine.{Listed, Machine, Fed}
-use Rattle.calls.specs.Claims.{recordsOf, NoneLonger}
+use Rattle.calls.specs.Machine.{Listed, Machine, Fed, recordsOf, NoneLonger}
 use Rattle.calls.proofs.AnyLog.{resumes-in-log}
 use Rattle.calls.proofs.Arranged.{Arrangement, none-arranged, records-arranged}
 use Rattle.calls.proofs.Replaying.{replay-all, replay-corrupt, records-append}
 use Rattle.calls.proofs.Answers.{Formed, readings-same, records-given}
 use Rattle.calls.proofs.Follows.{encodings, map-append, Standing}
 use Rattle.calls.proofs.Runs.{log-legal, each-limit}
-use Rattle.cut.specs.Cut.{cutLog, Unfit, Left, complete, headed, nothing, torn, given, writeAll, covered, givenAfter}
+use Rattle.cut.specs.Cut.{Unfit, Left, complete, headed, nothing, torn, covered}
+use Rattle.cut.specs.Claims.{cutLog, given, writeAll, givenAfter}
 use Rattle.cut.specs.Cut.{left as leftBy}
 use Rattle.cut.proofs.After.{cut-written}
-use Rattle.cut_calls.specs.Claims.{answered, keptOf, cutOf, reopened, Since, machineFrom, recordsSince, answeredAfter, AfterCalls, PowerCutOn}
+use Rattle.cut_calls.specs.Claims.{cutOf, reopened, StatesSince, recordsSince, StatesAfterCalls, StatesPowerCutOn}
+use Rattle.cut_calls.specs.CutRecord.{cutAnswered, keptOf, machineFrom, answeredAfter}
 use Rattle.cut_calls.proofs.PowerCut.{answers-back, own, limits, formed, cutting, cut-is, cut-length, replaying-cut, known}
 use Rattle.cut_calls.proofs.Since.{Going, Gone, follows-on}
 
@@ -38,7 +39,7 @@ answers-after : (n : ℕ) (l : Left) (r : Record) (rs : List Record) → WellFor
 unfolding givenAfter answeredAfter
 answers-after n l r rs f = go (covered n l (map encode rs))
   where
-    go : (b : Bool) → map answerOf (cond b [] (given l (encode r))) ≡ cond b [] (answered l r)
+    go : (b : Bool) → map answerOf (cond b [] (given l (encode r))) ≡ cond b [] (cutAnswered l r)
     go true = refl
     go false = answers-back l r f
 
@@ -51,7 +52,7 @@ joined-records c before rs =
 
 replays-after : (c : Capacities) (n : ℕ) (before : List Record) (l : Left) (r : Record) (rs : List Record)
     → replayAnswers c [] (map gaveRecord before ++ (answeredAfter n l r rs ++ (map gaveRecord rs ++ (gaveEnd ∷ [])))) ≡ replayRecords c [] (before ++ (keptOf l r ++ rs))
-unfolding answeredAfter answered keptOf covered
+unfolding answeredAfter cutAnswered keptOf covered
 replays-after c n before complete r rs = joined-records c before (r ∷ rs)
 replays-after c n before headed r rs = replay-corrupt c [] before rs _
 replays-after c n before nothing r rs = joined-records c before rs
@@ -59,9 +60,9 @@ replays-after c n before (torn s) r [] = replay-corrupt c [] before [] _
 replays-after c n before (torn s) r (q ∷ rs) = go (eqb (suc (s / 32768)) n)
   where
     go : (b : Bool)
-        → replayAnswers c [] (map gaveRecord before ++ (cond b [] (answered (torn s) r) ++ (map gaveRecord (q ∷ rs) ++ (gaveEnd ∷ [])))) ≡ replayRecords c [] (before ++ (q ∷ rs))
+        → replayAnswers c [] (map gaveRecord before ++ (cond b [] (cutAnswered (torn s) r) ++ (map gaveRecord (q ∷ rs) ++ (gaveEnd ∷ [])))) ≡ replayRecords c [] (before ++ (q ∷ rs))
     go true = joined-records c before (q ∷ rs)
-    go false = unfold answered in replay-corrupt c [] before (q ∷ rs) _
+    go false = unfold cutAnswered in replay-corrupt c [] before (q ∷ rs) _
 
 formed-kept : (before : List Record) (l : Left) (r : Record) → Formed before → WellFormed r → Formed (before ++ keptOf l r)
 unfolding keptOf
@@ -120,7 +121,7 @@ module _ (s s′ : State) (ls : List Listed) (l : Listed) (w : Standing s ls) (v
     };
   }
 
-  module _ (h₂ : List Fed) (s₂ : State) (since : Since (reopened (take c (s′ .log) ++ drop c (s .log)) m qs limit) h₂ s₂) (again : ℕ)
+  module _ (h₂ : List Fed) (s₂ : State) (since : StatesSince (reopened (take c (s′ .log) ++ drop c (s .log)) m qs limit) h₂ s₂) (again : ℕ)
       (none₁ : NoneLonger again (ls ++ (l ∷ []))) (none₂ : NoneLonger again (machineFrom start h₂ .records)) where
     gone : Gone cut q (w .number) m qs s₂ (machineFrom start h₂)
     unfolding cut
@@ -178,7 +179,7 @@ module _ (s s′ : State) (ls : List Listed) (l : Listed) (w : Standing s ls) (v
         ∙ ap (λ (o : Outcome). andThen o (λ (x : List Queue). replayRecords m x (recordsOf (gone .list)))) replayed
         ∙ gone .going .replayed
 
-    after-calls : AfterCalls (recordsOf ls) (l .written) (leftBy c (l .frames)) (recordsOf (machineFrom start h₂ .records)) s₂ again
+    after-calls : StatesAfterCalls (recordsOf ls) (l .written) (leftBy c (l .frames)) (recordsOf (machineFrom start h₂ .records)) s₂ again
     after-calls = record {
       reading =
           reading-on
@@ -187,11 +188,11 @@ module _ (s s′ : State) (ls : List Listed) (l : Listed) (w : Standing s ls) (v
       replay = replay-on;
     }
 
-pub power-cut-on : PowerCutOn
+pub states-power-cut-on : StatesPowerCutOn
 unfolding start
-power-cut-on h s r k l wr c limit again low high unfit none none₁ m qs e h₂ s₂ since none₂ =
+states-power-cut-on h s r k l wr c limit again low high unfit none none₁ m qs e h₂ s₂ since none₂ =
     let w = known h s r k l wr in
     let put-in : NoneLonger limit (w .list ++ (l ∷ [])) = subst (λ (ms : List Listed). NoneLonger limit (ms ++ (l ∷ []))) (w .records-is) none in
-    subst (λ (ms : List Listed). AfterCalls (recordsOf ms) (l .written) (leftBy c (l .frames)) (recordsOf (recordsSince (cutOf s k c) qs limit h₂)) s₂ again) (sym (w .records-is))
+    subst (λ (ms : List Listed). StatesAfterCalls (recordsOf ms) (l .written) (leftBy c (l .frames)) (recordsOf (recordsSince (cutOf s k c) qs limit h₂)) s₂ again) (sym (w .records-is))
     (after-calls s (callOf s k .state) (w .list) l (w .stands) (w .stands-after) (w .same) c limit low high unfit put-in m qs e h₂ s₂ since again
     (subst (λ (ms : List Listed). NoneLonger again (ms ++ (l ∷ []))) (w .records-is) none₁) none₂)

@@ -8,9 +8,9 @@ use native.Mathlib.Omega.{arith}
 use lib.ListN.{length, take, drop}
 use Rattle.slices.proofs.Put.{length-put}
 use Rattle.frame.specs.Block.{blocks}
-use Rattle.recordlog.specs.Write.{Frame, framesOf, placeAfter, placeAll, recordBytes, laid}
-use Rattle.recordlog.specs.Read.{whole, endOfLog, readAll}
-use Rattle.recordlog.specs.Claims.{Each}
+use Rattle.recordlog.specs.Write.{Frame, framesOf, placeAfter, recordBytes}
+use Rattle.recordlog.specs.Claims.{placeAll, laid, readAll, Each}
+use Rattle.recordlog.specs.Read.{whole, endOfLog}
 use Rattle.recordlog.proofs.Frames.{length-record}
 use Rattle.record.specs.Record.{Record, encode}
 use Rattle.record.specs.Fits.{WellFormed}
@@ -22,9 +22,8 @@ use Rattle.calls.specs.Refusals.{nextNamed, refusalsOf, refusalOf}
 use Rattle.calls.specs.Calls.{logged, wrote, createDone, deleteDone, truncateDone, emptyAnswer, appendTaking, appendDone, doneOf, callOf}
 use Rattle.calls.specs.Reading.{ReadAnswer, gaveRecord, gaveEnd, ofRecord, answerOf, readings}
 use Rattle.calls.specs.Replay.{replayAnswers, replayRecords, replayOf}
-use Rattle.calls.specs.Machine.{Listed, Machine, Fed, machineCall, machine}
-use Rattle.calls.specs.Run.{Run}
-use Rattle.calls.specs.Claims.{recordsOf, NoneLonger}
+use Rattle.calls.specs.Machine.{Listed, Machine, Fed, machineCall, machine, recordsOf, NoneLonger}
+use Rattle.calls.specs.Run.{StatesRun}
 use Rattle.calls.proofs.Passed.{create-passed, delete-passed, truncate-passed, AppendPassed, append-passed}
 use Rattle.calls.proofs.Done.{call-done}
 use Rattle.calls.proofs.Replaying.{replay-all, replay-corrupt}
@@ -32,14 +31,15 @@ use Rattle.calls.proofs.Answers.{Formed, readings-same, records-given}
 use Rattle.calls.proofs.Follows.{encodings, map-append, records-of-append, encodings-append, Owns, Standing, log-size, machineOf}
 use Rattle.calls.proofs.Steps.{Stepped, stepped, follows}
 use Rattle.calls.proofs.Runs.{log-legal, each-limit}
-use Rattle.cut.specs.Cut.{cutLog, Unfit, Left, complete, headed, nothing, torn, given, cutAnswers}
+use Rattle.cut.specs.Cut.{Unfit, Left, complete, headed, nothing, torn}
+use Rattle.cut.specs.Claims.{cutLog, given, cutAnswers, Cutting}
 use Rattle.cut.specs.Cut.{left as leftBy}
-use Rattle.cut.specs.Claims.{Cutting}
 use Rattle.cut.proofs.Reading.{cut-read}
 use Rattle.cut.proofs.Origin.{cut-of-writing}
 use Rattle.recordlog.proofs.Append.{place-append}
 use Rattle.cut.proofs.State.{log-size as cut-size}
-use Rattle.cut_calls.specs.Claims.{answered, keptOf, Writes, cutOf, AfterCut, PowerCut}
+use Rattle.cut_calls.specs.Claims.{Writes, cutOf, StatesAfterCut, StatesPowerCut}
+use Rattle.cut_calls.specs.CutRecord.{cutAnswered, keptOf}
 
 -- ---- a call leaves the log as long as it was
 
@@ -62,16 +62,16 @@ done-length s (appendCall n a run ks) e = append-length s n a run ks (append-pas
 
 -- ---- answers
 
-pub answers-back : (l : Left) (r : Record) → WellFormed r → map answerOf (given l (encode r)) ≡ answered l r
-unfolding given answered answerOf ofRecord
+pub answers-back : (l : Left) (r : Record) → WellFormed r → map answerOf (given l (encode r)) ≡ cutAnswered l r
+unfolding given cutAnswered answerOf ofRecord
 answers-back complete r f = ap (λ d. ofRecord d ∷ []) (decodes-back r f)
 answers-back headed r f = refl
 answers-back nothing r f = refl
 answers-back (torn s) r f = refl
 
 replays-back : (c : Capacities) (before : List Record) (l : Left) (r : Record)
-    → replayAnswers c [] (map gaveRecord before ++ (answered l r ++ (gaveEnd ∷ []))) ≡ replayRecords c [] (before ++ keptOf l r)
-unfolding answered keptOf
+    → replayAnswers c [] (map gaveRecord before ++ (cutAnswered l r ++ (gaveEnd ∷ []))) ≡ replayRecords c [] (before ++ keptOf l r)
+unfolding cutAnswered keptOf
 replays-back c before complete r =
     ap (replayAnswers c [])
     (sym (ap (λ (a : List ReadAnswer). a ++ (gaveEnd ∷ [])) (map-append gaveRecord before (r ∷ [])) ∙ append-assoc (map gaveRecord before) (gaveRecord r ∷ []) (gaveEnd ∷ [])))
@@ -141,7 +141,7 @@ module _ (s s′ : State) (ls : List Listed) (l : Listed) (w : Standing s ls) (v
   pub cut-length : length (take c (s′ .log) ++ drop c (s .log)) ≡ w .number * 32768 + length (w .tail)
   cut-length = ap length cut-is ∙ cut-size (w .number) limit c (encodings ls) (encode (l .written)) (w .tail) cutting
 
-  pub reading-cut : readings (take c (s′ .log) ++ drop c (s .log)) limit ≡ map gaveRecord (recordsOf ls) ++ (answered (leftBy c (l .frames)) (l .written) ++ (gaveEnd ∷ []))
+  pub reading-cut : readings (take c (s′ .log) ++ drop c (s .log)) limit ≡ map gaveRecord (recordsOf ls) ++ (cutAnswered (leftBy c (l .frames)) (l .written) ++ (gaveEnd ∷ []))
   unfolding answerOf cutAnswers
   reading-cut =
       readings-same (take c (s′ .log) ++ drop c (s .log)) limit (log-legal (take c (s′ .log) ++ drop c (s .log)) (w .number) (length (w .tail)) cut-length (w .short) (w .some) (w .most))
@@ -152,7 +152,7 @@ module _ (s s′ : State) (ls : List Listed) (l : Listed) (w : Standing s ls) (v
       (map-append answerOf (given (leftBy c (framesOf (placeAll 0 (encodings ls)) (encode (l .written)))) (encode (l .written))) (endOfLog ∷ [])
       ∙ ap (λ (a : List ReadAnswer). a ++ (gaveEnd ∷ []))
       (answers-back (leftBy c (framesOf (placeAll 0 (encodings ls)) (encode (l .written)))) (l .written) (formed .1)
-      ∙ ap (λ (fs : List Frame). answered (leftBy c fs) (l .written)) (sym own)))
+      ∙ ap (λ (fs : List Frame). cutAnswered (leftBy c fs) (l .written)) (sym own)))
 
   pub replaying-cut : (m : Capacities) → replayOf (take c (s′ .log) ++ drop c (s .log)) m limit ≡ replayRecords m [] (recordsOf ls ++ keptOf (leftBy c (l .frames)) (l .written))
   unfolding replayOf
@@ -163,7 +163,7 @@ module _ (s s′ : State) (ls : List Listed) (l : Listed) (w : Standing s ls) (v
 module _ (s : State) (ls : List Listed) (w : Standing s ls) (k : Call) (l : Listed) (v : Standing (callOf s k .state) (ls ++ (l ∷ [])))
     (same : length (callOf s k .state .log) ≡ length (s .log)) (c limit : ℕ) (low : s .place ≤ c) (high : c ≤ callOf s k .state .place)
     (unfit : Unfit c (l .frames)) (none : NoneLonger limit (ls ++ (l ∷ []))) where
-  after-cut : AfterCut s k (recordsOf ls) (l .written) (leftBy c (l .frames)) (cutOf s k c) limit
+  after-cut : StatesAfterCut s k (recordsOf ls) (l .written) (leftBy c (l .frames)) (cutOf s k c) limit
   after-cut = record {
     reading = reading-cut s (callOf s k .state) ls l w v same c limit low high unfit none;
     replay = again;
@@ -185,7 +185,7 @@ pub record Known (h : List Fed) (s : State) (k : Call) (l : Listed) : Type 0 whe
   pub stands-after : Standing (callOf s k .state) (list ++ (l ∷ []))
   pub same : length (callOf s k .state .log) ≡ length (s .log)
 
-pub known : (h : List Fed) (s : State) → Run h s → (k : Call) (l : Listed) → Writes h s k l → Known h s k l
+pub known : (h : List Fed) (s : State) → StatesRun h s → (k : Call) (l : Listed) → Writes h s k l → Known h s k l
 known h s r k l wr = record { list = follows r .list; records-is = records-is; stands = follows r .stands; stands-after = v; same = same }
   where
     records-is : machine h .records ≡ follows r .list
@@ -209,8 +209,8 @@ known h s r k l wr = record { list = follows r .list; records-is = records-is; s
     same : length (callOf s k .state .log) ≡ length (s .log)
     same = ap (λ (x : State). length (x .log)) done-is ∙ done-length s k (wr .done)
 
-pub power-cut : PowerCut
-power-cut h s r k l wr c limit low high unfit none =
+pub states-power-cut : StatesPowerCut
+states-power-cut h s r k l wr c limit low high unfit none =
     let w = known h s r k l wr in
-    subst (λ (ms : List Listed). AfterCut s k (recordsOf ms) (l .written) (leftBy c (l .frames)) (cutOf s k c) limit) (sym (w .records-is))
+    subst (λ (ms : List Listed). StatesAfterCut s k (recordsOf ms) (l .written) (leftBy c (l .frames)) (cutOf s k c) limit) (sym (w .records-is))
     (after-cut s (w .list) (w .stands) k l (w .stands-after) (w .same) c limit low high unfit (subst (λ (ms : List Listed). NoneLonger limit (ms ++ (l ∷ []))) (w .records-is) none))

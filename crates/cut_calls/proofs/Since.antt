@@ -11,26 +11,26 @@ use borrow.Author.Tests.{ne-eqb}
 use Rattle.slices.specs.Put.{put}
 use Rattle.slices.proofs.Put.{length-put}
 use Rattle.frame.specs.Block.{blocks}
-use Rattle.recordlog.specs.Write.{placeAfter, placeAll, recordBytes}
+use Rattle.recordlog.specs.Write.{placeAfter, recordBytes}
+use Rattle.recordlog.specs.Claims.{placeAll}
 use Rattle.recordlog.proofs.Frames.{length-record}
 use Rattle.record.specs.Record.{Record, encode}
 use Rattle.record.specs.Fits.{WellFormed}
 use Rattle.queues.specs.Queues.{Queue, Capacities}
-use Rattle.calls.specs.State.{State, Call, CallAnswer}
+use Rattle.calls.specs.State.{State, Call, CallAnswer, Typed}
 use Rattle.calls.specs.Refusals.{refusalOf}
 use Rattle.calls.specs.Calls.{logged, doneOf, returnedBy, callOf}
 use Rattle.calls.specs.Replay.{Outcome, left, andThen, replayRecord, replayRecords}
-use Rattle.calls.specs.Machine.{Listed, Machine, Fed, puts, machineCall}
-use Rattle.calls.specs.Run.{Typed, wasRefused}
-use Rattle.calls.specs.Claims.{recordsOf}
+use Rattle.calls.specs.Machine.{Listed, Machine, Fed, puts, machineCall, wasRefused, recordsOf}
 use Rattle.calls.proofs.Replaying.{records-append}
 use Rattle.calls.proofs.Answers.{Formed}
 use Rattle.calls.proofs.Arranged.{Arrangement, records-arranged}
 use Rattle.calls.proofs.Follows.{encodings, records-of-append, encodings-append, machineOf, listed}
 use Rattle.calls.proofs.Steps.{done-zero}
-use Rattle.cut.specs.Cut.{writeAll}
+use Rattle.cut.specs.Claims.{writeAll}
 use Rattle.recordlog.proofs.Append.{place-append}
-use Rattle.cut_calls.specs.Claims.{Since, none, call, machineFrom}
+use Rattle.cut_calls.specs.Claims.{StatesSince, none, call}
+use Rattle.cut_calls.specs.CutRecord.{machineFrom}
 use Rattle.calls.proofs.Taken.{Taken, wroteOne, wroteNone, taken}
 
 write-snoc : (rs : List (List ℕ)) (log : List ℕ) (q : ℕ) (xs : List ℕ)
@@ -113,7 +113,7 @@ module _ (log : List ℕ) (q n : ℕ) (c : Capacities) (qs₀ : List Queue) (arr
   step-by s m w k t (suc i) z =
       subst (λ (b : Bool). Gone log q n c qs₀ s (cond (not b) m (machineCall m k))) (sym (ne-eqb (suc i) 0 (λ p. omega arith))) w
 
-  pub follows-on : (s₀ : State) (m₀ : Machine) → Gone log q n c qs₀ s₀ m₀ → {h : List Fed} {s : State} → Since s₀ h s → Gone log q n c qs₀ s (machineFrom m₀ h)
+  pub follows-on : (s₀ : State) (m₀ : Machine) → Gone log q n c qs₀ s₀ m₀ → {h : List Fed} {s : State} → StatesSince s₀ h s → Gone log q n c qs₀ s (machineFrom m₀ h)
   unfolding machineFrom callOf
   follows-on s₀ m₀ w none = w
   follows-on s₀ m₀ w (call {h} {s} k a s′ r t e f) =

@@ -1,3 +1,4 @@
+-- Claim.
 -- What is claimed of numbers as bytes, at every width; each is proved in proofs/ under the same name with hyphens.
 -- Assumes nothing.
 use mathlib.Core.Path.{_≡_}

@@ -1,3 +1,4 @@
+-- Definition (01, its first lines).
 -- Little-endian numbers of any width (01: "all stored numbers are little-endian").
 -- Assumes nothing.
 use mathlib.Core.List.{List, [], _∷_}

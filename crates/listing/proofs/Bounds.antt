@@ -20,9 +20,10 @@ use Rattle.queues.proofs.SumsHeld.{queues-held, names-held, records-held, paylo
 use Rattle.queues.proofs.Both.{and-left, and-right}
 use Rattle.queues.proofs.Rising.{risen, Fine, arranged-fine, fine-next}
 use Rattle.listing.specs.Digits.{digit, hexRun, hex, decimal}
-use Rattle.listing.specs.Writing.{written, behind}
-use Rattle.listing.specs.Listing.{queuesWord, queueWord, startWord, nextWord, heldWord, recordWord, lostWord, fillWord, space, point, lineFeed, numbered, numberLine, headLine, queueLine, recordLine, recordLines, queueLines, wholeBytes, halvesUp, fillTenths, LogFits, fillLine, endLines, listing}
-use Rattle.listing.specs.Claims.{HalvesUp, WrittenFits, WrittenShort, ListingShort, MemoryShort}
+use Rattle.listing.specs.Writing.{written}
+use Rattle.listing.specs.Internal.{behind}
+use Rattle.listing.specs.Listing.{queuesWord, queueWord, startWord, nextWord, heldWord, recordWord, lostWord, fillWord, space, point, lineFeed, numbered, numberLine, headLine, queueLine, recordLine, recordLines, queueLines, wholeBytes, halvesUp, fillTenths, fillLine, endLines, listing}
+use Rattle.listing.specs.Claims.{LogFits, HalvesUp, WrittenFits, WrittenShort, ListingShort, MemoryShort}
 use Rattle.listing.proofs.Writes.{by-test, written-append, written-out, behind-in}
 use Rattle.listing.proofs.Notation.{decimal-one, decimal-more}
 

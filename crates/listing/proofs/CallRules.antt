@@ -45,12 +45,14 @@ use Rattle.listing.proofs.Listed.Laws as Lst′
 use lib.ListN.{length, take, drop as dropped}
 use Rattle.queues.specs.Changes.{wordAt}
 use Rattle.queues.specs.Access.{heldIn}
-use Rattle.listing.specs.Writing.{written, behind, cursor, listed}
-use Rattle.listing.specs.Listing.{queuesWord, numberLine, endLines, LogFits}
-use Rattle.listing.specs.Passes.{counted, countTo, entryLine, rowLine, RowLine, linesTo, queueText, queuesTo, recordsAt, queuesAt, EntriesFit, QueueFits, QueuesFit}
-use Rattle.record_table.proofs.Hold.{Hold, HoldShr, Lent, at-list, slice, lends, back}
-use Rattle.record_table.proofs.Calls.{calls-kept}
-use Rattle.record_table.proofs.Typed.{IsRecordEntry, IsHeld}
+use Rattle.listing.specs.Writing.{written, listed}
+use Rattle.listing.specs.Internal.{behind, cursor}
+use Rattle.listing.specs.Listing.{queuesWord, numberLine, endLines}
+use Rattle.listing.specs.Claims.{LogFits}
+use Rattle.listing.specs.Passes.{counted, countTo, entryLine, rowLine, RowLine, linesTo, queueText, recordsAt, EntriesFit, QueueFits}
+use Rattle.mem_entries.proofs.Hold.{Hold, HoldShr, Lent, at-list, slice, lends, back}
+use Rattle.mem_entries.proofs.Calls.{calls-kept}
+use Rattle.mem_entries.proofs.Typed.{IsRecordEntry, IsHeld}
 use Rattle.listing.proofs.Typed.{IsCursor, IsListed}
 use Rattle.listing.proofs.text.count_entry as count-entry
 use Rattle.listing.proofs.text.count_entry.Symbol.{name as #listing·text·count-entry}
@@ -66,12 +68,10 @@ use Rattle.listing.proofs.text.past_queue as past-queue
 use Rattle.listing.proofs.text.past_queue.Symbol.{name as #listing·text·past-queue}
 use Rattle.listing.proofs.passes.queue_text as queue-text
 use Rattle.listing.proofs.passes.queue_text.Symbol.{name as #listing·passes·queue-text}
-use Rattle.tables.proofs.table.held as held
-use Rattle.tables.proofs.table.held.Symbol.{name as #tables·table·held}
+use Rattle.mem_names.proofs.table.held as held
+use Rattle.mem_names.proofs.table.held.Symbol.{name as #mem-names·table·held}
 use Rattle.listing.proofs.text.queues_line as queues-line
 use Rattle.listing.proofs.text.queues_line.Symbol.{name as #listing·text·queues-line}
-use Rattle.listing.proofs.passes.queue_lines as queue-lines
-use Rattle.listing.proofs.passes.queue_lines.Symbol.{name as #listing·passes·queue-lines}
 use Rattle.listing.proofs.text.end_lines as end-lines
 use Rattle.listing.proofs.text.end_lines.Symbol.{name as #listing·text·end-lines}
 
@@ -103,9 +103,6 @@ module _ {M : Type 1} (𝓤 : URA M) (H : Heap 𝓤) (A : Atoms 𝓤) (mem : Mem
 
   abbrev pub QueuesLineSays : Contract 𝓤
   QueuesLineSays = tripleOf 𝓤 H A queues-line.signature (queues-line.spec 𝓤 H A mem run)
-
-  abbrev pub QueueLinesSays : Contract 𝓤
-  QueueLinesSays = tripleOf 𝓤 H A queue-lines.signature (queue-lines.spec 𝓤 H A mem run)
 
   abbrev pub EndLinesSays : Contract 𝓤
   EndLinesSays = tripleOf 𝓤 H A end-lines.signature (end-lines.spec 𝓤 H A mem run)
@@ -163,12 +160,6 @@ asks-queues-line : {M : Type 1} (𝓤 : URA M) (H : Heap 𝓤) (A : Atoms 𝓤) 
     → ent 𝓤 (⋆ 𝓤 H A (‵ (flft (ν-out ∷ []) fullShare) ∷ ‵ (MutSlice (named 0) (ν-out ∷ []) u8 .own (at-list u8 κ-out s-out γ-out b-out o-out n-out δ-out out) (slice u8 κ-out s-out γ-out b-out o-out n-out ∷ [])) ∷ [])) ((QueuesLineSays 𝓤 H A mem run) .pre (((ν-out ∷ [], tt), (fullShare, tt), tt, (at-list u8 κ-out s-out γ-out b-out o-out n-out δ-out out, (queues, tt)), (slice u8 κ-out s-out γ-out b-out o-out n-out ∷ [], (vint w64 queues ∷ [], tt))), tt))
 asks-queues-line 𝓤 H A W mem run κ-out s-out γ-out b-out o-out n-out out queues queues-is ν-out δ-out =
     qed W (‵ (flft (ν-out ∷ []) fullShare) ∷ ‵ (MutSlice (named 0) (ν-out ∷ []) u8 .own (at-list u8 κ-out s-out γ-out b-out o-out n-out δ-out out) (slice u8 κ-out s-out γ-out b-out o-out n-out ∷ [])) ∷ []) ∵ nothing ! $ owned ! usize (Is usize) (uint-makes 𝓤 H A W w64) queues _ (refl, queues-is) $ fjoin ! $ move ! (2 ∷ 0 ∷ []) $ fjoin ! $ nothing ! $ move ! (2 ∷ 0 ∷ []) $ join ! $ join ! $ frame ! $ done !
-
--- what `queue_lines` asks
-asks-queue-lines : {M : Type 1} (𝓤 : URA M) (H : Heap 𝓤) (A : Atoms 𝓤) (W : Given 𝓤 H A) (mem : Memory → SProp 𝓤) (run : Routine → Fun 𝓤) (κ-names : Lft) (s-names : Share) (γ-names : GName) (b-names o-names n-names : ℕ) (κ-payloads : Lft) (s-payloads : Share) (γ-payloads : GName) (b-payloads o-payloads n-payloads : ℕ) (κ-entries : Lft) (s-entries : Share) (γ-entries : GName) (b-entries o-entries n-entries : ℕ) (κ-table : Lft) (s-table : Share) (γ-table : GName) (b-table o-table n-table : ℕ) (κ-out : Lft) (s-out : Share) (γ-out : GName) (b-out o-out n-out : ℕ) (names : List ℕ) (payloads : List ℕ) (entries : List RecordEntry) (table : List ℕ) (out : List ℕ) (place : ℕ) (place-is : place < 2 ^ 64) (count : ℕ) (count-is : count < 2 ^ 64) (queues : ℕ) (queues-is : queues < 2 ^ 64) (need : QueuesFit names payloads entries table count queues) (ν-out : ℕ) (δ-out : GName)
-    → ent 𝓤 (⋆ 𝓤 H A (‵ (flft κ-names s-names) ∷ ‵ (flft κ-payloads s-payloads) ∷ ‵ (flft κ-entries s-entries) ∷ ‵ (flft κ-table s-table) ∷ ‵ (flft (ν-out ∷ []) fullShare) ∷ ‵ (ShrSlice (named 0) κ-names u8 .own (at-list u8 κ-names s-names γ-names b-names o-names n-names γ-names names) (slice u8 κ-names s-names γ-names b-names o-names n-names ∷ [])) ∷ ‵ (ShrSlice (named 0) κ-payloads u8 .own (at-list u8 κ-payloads s-payloads γ-payloads b-payloads o-payloads n-payloads γ-payloads payloads) (slice u8 κ-payloads s-payloads γ-payloads b-payloads o-payloads n-payloads ∷ [])) ∷ ‵ (ShrSlice (named 0) κ-entries Entry.the-row .own (at-list Entry.the-row κ-entries s-entries γ-entries b-entries o-entries n-entries γ-entries entries) (slice Entry.the-row κ-entries s-entries γ-entries b-entries o-entries n-entries ∷ [])) ∷ ‵ (ShrSlice (named 0) κ-table u64 .own (at-list u64 κ-table s-table γ-table b-table o-table n-table γ-table table) (slice u64 κ-table s-table γ-table b-table o-table n-table ∷ [])) ∷ ‵ (MutSlice (named 0) (ν-out ∷ []) u8 .own (at-list u8 κ-out s-out γ-out b-out o-out n-out δ-out out) (slice u8 κ-out s-out γ-out b-out o-out n-out ∷ [])) ∷ [])) ((QueueLinesSays 𝓤 H A mem run) .pre (((κ-names, (κ-payloads, (κ-entries, (κ-table, (ν-out ∷ [], tt))))), (s-names, (s-payloads, (s-entries, (s-table, (fullShare, tt))))), tt, (at-list u8 κ-names s-names γ-names b-names o-names n-names γ-names names, (at-list u8 κ-payloads s-payloads γ-payloads b-payloads o-payloads n-payloads γ-payloads payloads, (at-list Entry.the-row κ-entries s-entries γ-entries b-entries o-entries n-entries γ-entries entries, (at-list u64 κ-table s-table γ-table b-table o-table n-table γ-table table, (at-list u8 κ-out s-out γ-out b-out o-out n-out δ-out out, (place, (count, (queues, tt)))))))), (slice u8 κ-names s-names γ-names b-names o-names n-names ∷ [], (slice u8 κ-payloads s-payloads γ-payloads b-payloads o-payloads n-payloads ∷ [], (slice Entry.the-row κ-entries s-entries γ-entries b-entries o-entries n-entries ∷ [], (slice u64 κ-table s-table γ-table b-table o-table n-table ∷ [], (slice u8 κ-out s-out γ-out b-out o-out n-out ∷ [], (vint w64 place ∷ [], (vint w64 count ∷ [], (vint w64 queues ∷ [], tt))))))))), tt))
-asks-queue-lines 𝓤 H A W mem run κ-names s-names γ-names b-names o-names n-names κ-payloads s-payloads γ-payloads b-payloads o-payloads n-payloads κ-entries s-entries γ-entries b-entries o-entries n-entries κ-table s-table γ-table b-table o-table n-table κ-out s-out γ-out b-out o-out n-out names payloads entries table out place place-is count count-is queues queues-is need ν-out δ-out =
-    qed W (‵ (flft κ-names s-names) ∷ ‵ (flft κ-payloads s-payloads) ∷ ‵ (flft κ-entries s-entries) ∷ ‵ (flft κ-table s-table) ∷ ‵ (flft (ν-out ∷ []) fullShare) ∷ ‵ (ShrSlice (named 0) κ-names u8 .own (at-list u8 κ-names s-names γ-names b-names o-names n-names γ-names names) (slice u8 κ-names s-names γ-names b-names o-names n-names ∷ [])) ∷ ‵ (ShrSlice (named 0) κ-payloads u8 .own (at-list u8 κ-payloads s-payloads γ-payloads b-payloads o-payloads n-payloads γ-payloads payloads) (slice u8 κ-payloads s-payloads γ-payloads b-payloads o-payloads n-payloads ∷ [])) ∷ ‵ (ShrSlice (named 0) κ-entries Entry.the-row .own (at-list Entry.the-row κ-entries s-entries γ-entries b-entries o-entries n-entries γ-entries entries) (slice Entry.the-row κ-entries s-entries γ-entries b-entries o-entries n-entries ∷ [])) ∷ ‵ (ShrSlice (named 0) κ-table u64 .own (at-list u64 κ-table s-table γ-table b-table o-table n-table γ-table table) (slice u64 κ-table s-table γ-table b-table o-table n-table ∷ [])) ∷ ‵ (MutSlice (named 0) (ν-out ∷ []) u8 .own (at-list u8 κ-out s-out γ-out b-out o-out n-out δ-out out) (slice u8 κ-out s-out γ-out b-out o-out n-out ∷ [])) ∷ []) ∵ says ! need $ nothing ! $ move ! (5 ∷ 0 ∷ []) $ join ! $ move ! (4 ∷ 0 ∷ []) $ join ! $ move ! (3 ∷ 0 ∷ []) $ join ! $ move ! (2 ∷ 0 ∷ []) $ join ! $ move ! (1 ∷ 0 ∷ []) $ join ! $ frame ! $ nothing ! $ owned ! usize (Is usize) (uint-makes 𝓤 H A W w64) queues _ (refl, queues-is) $ fjoin ! $ owned ! usize (Is usize) (uint-makes 𝓤 H A W w64) count _ (refl, count-is) $ fjoin ! $ owned ! usize (Is usize) (uint-makes 𝓤 H A W w64) place _ (refl, place-is) $ fjoin ! $ move ! (5 ∷ 0 ∷ []) $ fjoin ! $ move ! (4 ∷ 0 ∷ []) $ fjoin ! $ move ! (3 ∷ 0 ∷ []) $ fjoin ! $ move ! (2 ∷ 0 ∷ []) $ fjoin ! $ move ! (1 ∷ 0 ∷ []) $ fjoin ! $ done !
 
 -- what `end_lines` asks
 asks-end-lines : {M : Type 1} (𝓤 : URA M) (H : Heap 𝓤) (A : Atoms 𝓤) (W : Given 𝓤 H A) (mem : Memory → SProp 𝓤) (run : Routine → Fun 𝓤) (κ-out : Lft) (s-out : Share) (γ-out : GName) (b-out o-out n-out : ℕ) (out : List ℕ) (place : ℕ) (place-is : place < 2 ^ 64) (lost : ℕ) (lost-is : lost < 2 ^ 64) (resumed : ℕ) (resumed-is : resumed < 2 ^ 64) (bytes : ℕ) (bytes-is : bytes < 2 ^ 64) (need : LogFits resumed bytes) (ν-out : ℕ) (δ-out : GName)
@@ -374,10 +365,10 @@ module _ {M : Type 1} {𝓤 : URA M} {H : Heap 𝓤} {A : Atoms 𝓤} {K : Type 
         asks : (ν-out : ℕ) (δ-out : GName) → ent 𝓤 (⋆ 𝓤 H A (‵ (flft κ-names s-names) ∷ ‵ (flft κ-payloads s-payloads) ∷ ‵ (flft κ-entries s-entries) ∷ ‵ (flft κ-table s-table) ∷ ‵ (flft (ν-out ∷ []) fullShare) ∷ ‵ (ShrSlice (named 0) κ-names u8 .own (at-list u8 κ-names s-names γ-names b-names o-names n-names γ-names names) (slice u8 κ-names s-names γ-names b-names o-names n-names ∷ [])) ∷ ‵ (ShrSlice (named 0) κ-payloads u8 .own (at-list u8 κ-payloads s-payloads γ-payloads b-payloads o-payloads n-payloads γ-payloads payloads) (slice u8 κ-payloads s-payloads γ-payloads b-payloads o-payloads n-payloads ∷ [])) ∷ ‵ (ShrSlice (named 0) κ-entries Entry.the-row .own (at-list Entry.the-row κ-entries s-entries γ-entries b-entries o-entries n-entries γ-entries entries) (slice Entry.the-row κ-entries s-entries γ-entries b-entries o-entries n-entries ∷ [])) ∷ ‵ (ShrSlice (named 0) κ-table u64 .own (at-list u64 κ-table s-table γ-table b-table o-table n-table γ-table table) (slice u64 κ-table s-table γ-table b-table o-table n-table ∷ [])) ∷ ‵ (MutSlice (named 0) (ν-out ∷ []) u8 .own (at-list u8 κ-out s-out γ-out b-out o-out n-out δ-out out) (slice u8 κ-out s-out γ-out b-out o-out n-out ∷ [])) ∷ [])) ((QueueTextSays 𝓤 H A mem run) .pre (to ν-out δ-out))
         asks ν-out δ-out = asks-queue-text 𝓤 H A W mem run κ-names s-names γ-names b-names o-names n-names κ-payloads s-payloads γ-payloads b-payloads o-payloads n-payloads κ-entries s-entries γ-entries b-entries o-entries n-entries κ-table s-table γ-table b-table o-table n-table κ-out s-out γ-out b-out o-out n-out names payloads entries table out cur cur-is count count-is which which-is need ν-out δ-out
 
-    pub held! : K → FmC 𝓤 H (W .laws) C → Triple 𝓤 (C #tables·table·held) (HeldSays 𝓤 H A mem run) → {κ-table : Lft} {s-table : Share} {γ-table : GName} {b-table o-table n-table : ℕ} (table : List ℕ) → length table ≡ n-table →
+    pub held! : K → FmC 𝓤 H (W .laws) C → Triple 𝓤 (C #mem-names·table·held) (HeldSays 𝓤 H A mem run) → {κ-table : Lft} {s-table : Share} {γ-table : GName} {b-table o-table n-table : ℕ} (table : List ℕ) → length table ≡ n-table →
         ((j : Item 𝓤) → Opds K W (j ∷ Γ) E xs (slice u64 κ-table s-table γ-table b-table o-table n-table ∷ []))
         → (IsHeld (heldIn table) → Seq K W (‵ (HoldShr u64 κ-table s-table γ-table b-table o-table n-table table) ∷ Γ) (lands C Λ E d (Hld′.lowered (heldIn table)) rest p))
-        → Seq K W (‵ (HoldShr u64 κ-table s-table γ-table b-table o-table n-table table) ∷ Γ) (runs C Λ E (seq (call #tables·table·held xs d) rest) p)
+        → Seq K W (‵ (HoldShr u64 κ-table s-table γ-table b-table o-table n-table table) ∷ Γ) (runs C Λ E (seq (call #mem-names·table·held xs d) rest) p)
     held! t fm known {κ-table} {s-table} {γ-table} {b-table} {o-table} {n-table} table len-table opds k =
         fsplit t $ use1 W (‵ (ShrSlice (named 0) κ-table u64 .own (at-list u64 κ-table s-table γ-table b-table o-table n-table γ-table table) (slice u64 κ-table s-table γ-table b-table o-table n-table ∷ [])) ⊛ ‵ (ShrSlice (named 0) κ-table u64 .own (at-list u64 κ-table s-table γ-table b-table o-table n-table γ-table table) (slice u64 κ-table s-table γ-table b-table o-table n-table ∷ []))) (shr-slice-copy 𝓤 H A W (named 0) κ-table u64 .twice (at-list u64 κ-table s-table γ-table b-table o-table n-table γ-table table) (slice u64 κ-table s-table γ-table b-table o-table n-table ∷ [])) $ split t $
         move t (2 ∷ 0 ∷ []) $ group t 2 $ use1 W (raw ((HeldSays 𝓤 H A mem run) .pre to)) asks $ group t 2 $
@@ -425,40 +416,6 @@ module _ {M : Type 1} {𝓤 : URA M} {H : Heap 𝓤} {A : Atoms 𝓤} {K : Type 
 
         asks : (ν-out : ℕ) (δ-out : GName) → ent 𝓤 (⋆ 𝓤 H A (‵ (flft (ν-out ∷ []) fullShare) ∷ ‵ (MutSlice (named 0) (ν-out ∷ []) u8 .own (at-list u8 κ-out s-out γ-out b-out o-out n-out δ-out out) (slice u8 κ-out s-out γ-out b-out o-out n-out ∷ [])) ∷ [])) ((QueuesLineSays 𝓤 H A mem run) .pre (to ν-out δ-out))
         asks ν-out δ-out = asks-queues-line 𝓤 H A W mem run κ-out s-out γ-out b-out o-out n-out out queues queues-is ν-out δ-out
-
-    pub queue-lines! : K → FmC 𝓤 H (W .laws) C → Triple 𝓤 (C #listing·passes·queue-lines) (QueueLinesSays 𝓤 H A mem run) → {κ-names : Lft} {s-names : Share} {γ-names : GName} {b-names o-names n-names : ℕ} {κ-payloads : Lft} {s-payloads : Share} {γ-payloads : GName} {b-payloads o-payloads n-payloads : ℕ} {κ-entries : Lft} {s-entries : Share} {γ-entries : GName} {b-entries o-entries n-entries : ℕ} {κ-table : Lft} {s-table : Share} {γ-table : GName} {b-table o-table n-table : ℕ} {κ-out : Lft} {s-out : Share} {γ-out : GName} {b-out o-out n-out : ℕ} (names : List ℕ) → length names ≡ n-names → (payloads : List ℕ) → length payloads ≡ n-payloads → (entries : List RecordEntry) → length entries ≡ n-entries → (table : List ℕ) → length table ≡ n-table → (out : List ℕ) → length out ≡ n-out → Room u8 n-out → (place : ℕ) → place < 2 ^ 64 → (count : ℕ) → count < 2 ^ 64 → (queues : ℕ) → queues < 2 ^ 64 → (QueuesFit names payloads entries table count queues) →
-        ((j : Item 𝓤) → Opds K W (j ∷ Γ) E xs (slice u8 κ-names s-names γ-names b-names o-names n-names ∷ slice u8 κ-payloads s-payloads γ-payloads b-payloads o-payloads n-payloads ∷ slice Entry.the-row κ-entries s-entries γ-entries b-entries o-entries n-entries ∷ slice u64 κ-table s-table γ-table b-table o-table n-table ∷ slice u8 κ-out s-out γ-out b-out o-out n-out ∷ vint w64 place ∷ vint w64 count ∷ vint w64 queues ∷ []))
-        → (IsCursor (queuesAt (length out) place names payloads entries table count queues) → length (written out place (queuesTo names payloads entries table count queues)) ≡ n-out → Seq K W (‵ (HoldShr u8 κ-names s-names γ-names b-names o-names n-names names) ∷ ‵ (HoldShr u8 κ-payloads s-payloads γ-payloads b-payloads o-payloads n-payloads payloads) ∷ ‵ (HoldShr Entry.the-row κ-entries s-entries γ-entries b-entries o-entries n-entries entries) ∷ ‵ (HoldShr u64 κ-table s-table γ-table b-table o-table n-table table) ∷ ‵ (Hold u8 κ-out s-out γ-out b-out o-out n-out (written out place (queuesTo names payloads entries table count queues))) ∷ Γ) (lands C Λ E d (Cur′.lowered (queuesAt (length out) place names payloads entries table count queues)) rest p))
-        → Seq K W (‵ (HoldShr u8 κ-names s-names γ-names b-names o-names n-names names) ∷ ‵ (HoldShr u8 κ-payloads s-payloads γ-payloads b-payloads o-payloads n-payloads payloads) ∷ ‵ (HoldShr Entry.the-row κ-entries s-entries γ-entries b-entries o-entries n-entries entries) ∷ ‵ (HoldShr u64 κ-table s-table γ-table b-table o-table n-table table) ∷ ‵ (Hold u8 κ-out s-out γ-out b-out o-out n-out out) ∷ Γ) (runs C Λ E (seq (call #listing·passes·queue-lines xs d) rest) p)
-    queue-lines! t fm known {κ-names} {s-names} {γ-names} {b-names} {o-names} {n-names} {κ-payloads} {s-payloads} {γ-payloads} {b-payloads} {o-payloads} {n-payloads} {κ-entries} {s-entries} {γ-entries} {b-entries} {o-entries} {n-entries} {κ-table} {s-table} {γ-table} {b-table} {o-table} {n-table} {κ-out} {s-out} {γ-out} {b-out} {o-out} {n-out} names len-names payloads len-payloads entries len-entries table len-table out len-out room-out place place-is count count-is queues queues-is need opds k =
-        fsplit t $ use1 W (‵ (ShrSlice (named 0) κ-names u8 .own (at-list u8 κ-names s-names γ-names b-names o-names n-names γ-names names) (slice u8 κ-names s-names γ-names b-names o-names n-names ∷ [])) ⊛ ‵ (ShrSlice (named 0) κ-names u8 .own (at-list u8 κ-names s-names γ-names b-names o-names n-names γ-names names) (slice u8 κ-names s-names γ-names b-names o-names n-names ∷ []))) (shr-slice-copy 𝓤 H A W (named 0) κ-names u8 .twice (at-list u8 κ-names s-names γ-names b-names o-names n-names γ-names names) (slice u8 κ-names s-names γ-names b-names o-names n-names ∷ [])) $ split t $
-        move t (3 ∷ []) $ fsplit t $ use1 W (‵ (ShrSlice (named 0) κ-payloads u8 .own (at-list u8 κ-payloads s-payloads γ-payloads b-payloads o-payloads n-payloads γ-payloads payloads) (slice u8 κ-payloads s-payloads γ-payloads b-payloads o-payloads n-payloads ∷ [])) ⊛ ‵ (ShrSlice (named 0) κ-payloads u8 .own (at-list u8 κ-payloads s-payloads γ-payloads b-payloads o-payloads n-payloads γ-payloads payloads) (slice u8 κ-payloads s-payloads γ-payloads b-payloads o-payloads n-payloads ∷ []))) (shr-slice-copy 𝓤 H A W (named 0) κ-payloads u8 .twice (at-list u8 κ-payloads s-payloads γ-payloads b-payloads o-payloads n-payloads γ-payloads payloads) (slice u8 κ-payloads s-payloads γ-payloads b-payloads o-payloads n-payloads ∷ [])) $ split t $
-        move t (6 ∷ []) $ fsplit t $ use1 W (‵ (ShrSlice (named 0) κ-entries Entry.the-row .own (at-list Entry.the-row κ-entries s-entries γ-entries b-entries o-entries n-entries γ-entries entries) (slice Entry.the-row κ-entries s-entries γ-entries b-entries o-entries n-entries ∷ [])) ⊛ ‵ (ShrSlice (named 0) κ-entries Entry.the-row .own (at-list Entry.the-row κ-entries s-entries γ-entries b-entries o-entries n-entries γ-entries entries) (slice Entry.the-row κ-entries s-entries γ-entries b-entries o-entries n-entries ∷ []))) (shr-slice-copy 𝓤 H A W (named 0) κ-entries Entry.the-row .twice (at-list Entry.the-row κ-entries s-entries γ-entries b-entries o-entries n-entries γ-entries entries) (slice Entry.the-row κ-entries s-entries γ-entries b-entries o-entries n-entries ∷ [])) $ split t $
-        move t (9 ∷ []) $ fsplit t $ use1 W (‵ (ShrSlice (named 0) κ-table u64 .own (at-list u64 κ-table s-table γ-table b-table o-table n-table γ-table table) (slice u64 κ-table s-table γ-table b-table o-table n-table ∷ [])) ⊛ ‵ (ShrSlice (named 0) κ-table u64 .own (at-list u64 κ-table s-table γ-table b-table o-table n-table γ-table table) (slice u64 κ-table s-table γ-table b-table o-table n-table ∷ []))) (shr-slice-copy 𝓤 H A W (named 0) κ-table u64 .twice (at-list u64 κ-table s-table γ-table b-table o-table n-table γ-table table) (slice u64 κ-table s-table γ-table b-table o-table n-table ∷ [])) $ split t $
-        lft-new t tt (λ ν-out. move t (13 ∷ []) $ use1 W (later (some (λ (δ : GName). ‵ (MutSlice (named 0) (ν-out ∷ []) u8 .own (at-list u8 κ-out s-out γ-out b-out o-out n-out δ out) (slice u8 κ-out s-out γ-out b-out o-out n-out ∷ [])) ⊛ ‵ (Lent u8 κ-out s-out γ-out b-out o-out n-out ν-out δ out)))) (lends 𝓤 H A W u8 κ-out s-out γ-out b-out o-out ν-out n-out out len-out) $ await t tt $ pick t (λ δ-out. split t $
-        move t (14 ∷ 11 ∷ 8 ∷ 5 ∷ 2 ∷ 12 ∷ 9 ∷ 6 ∷ 3 ∷ 0 ∷ []) $ group t 10 $ use1 W (raw ((QueueLinesSays 𝓤 H A mem run) .pre (to ν-out δ-out))) (asks ν-out δ-out) $ move t (0 ∷ 5 ∷ 4 ∷ 3 ∷ 2 ∷ 1 ∷ []) $ group t 6 $
-        calls-kept t fm (QueueLinesSays 𝓤 H A mem run) known (to ν-out δ-out) (‵ (ShrSlice (named 0) κ-names u8 .own (at-list u8 κ-names s-names γ-names b-names o-names n-names γ-names names) (slice u8 κ-names s-names γ-names b-names o-names n-names ∷ [])) ⊛ ‵ (ShrSlice (named 0) κ-payloads u8 .own (at-list u8 κ-payloads s-payloads γ-payloads b-payloads o-payloads n-payloads γ-payloads payloads) (slice u8 κ-payloads s-payloads γ-payloads b-payloads o-payloads n-payloads ∷ [])) ⊛ ‵ (ShrSlice (named 0) κ-entries Entry.the-row .own (at-list Entry.the-row κ-entries s-entries γ-entries b-entries o-entries n-entries γ-entries entries) (slice Entry.the-row κ-entries s-entries γ-entries b-entries o-entries n-entries ∷ [])) ⊛ ‵ (ShrSlice (named 0) κ-table u64 .own (at-list u64 κ-table s-table γ-table b-table o-table n-table γ-table table) (slice u64 κ-table s-table γ-table b-table o-table n-table ∷ [])) ⊛ ‵ (Lent u8 κ-out s-out γ-out b-out o-out n-out ν-out δ-out out)) (opds _) (λ v.
-        use1 W (later (some (λ (r : Cursor). ((‵ (flft κ-names s-names) ⊛ ‵ (flft κ-payloads s-payloads) ⊛ ‵ (flft κ-entries s-entries) ⊛ ‵ (flft κ-table s-table) ⊛ ‵ (flft (ν-out ∷ []) fullShare) ⊛ ‵ ftrue) ⊛ ‵ (Cur.the-row .own r (v ∷ []))) ⊛ raw (ensured 𝓤 H A queue-lines.ended (queue-lines.clauses 𝓤 H A mem run) (κ-names, (κ-payloads, (κ-entries, (κ-table, (ν-out ∷ [], tt))))) (args ν-out δ-out) tt r)))) (id⊢ 𝓤 _) $ await t tt $ pick t (λ r. split t $ move t (1 ∷ []) $
-        use1 W (some (λ (ws : (Unit {0} × (Unit {0} × (Unit {0} × (Unit {0} × (List ℕ × (Unit {0} × (Unit {0} × (Unit {0} × Unit {0}))))))))). ‵ (lasts queue-lines.ended (κ-names, (κ-payloads, (κ-entries, (κ-table, (ν-out ∷ [], tt))))) (args ν-out δ-out) ws) ⊛ raw (fact 𝓤 (Said r (ws .1 .1 .1 .1 .0))))) (id⊢ 𝓤 _) $ pick t (λ ws. split t $ move t (1 ∷ []) $ heard t (Said r (ws .1 .1 .1 .1 .0)) (λ said. fsplit t $ drop t $ fsplit t $ drop t $ fsplit t $ drop t $ fsplit t $ drop t $ fsplit t $ fsplit t $ move t (1 ∷ []) $ feqL t (λ same-out. move t (1 ∷ []) $ drop t $
-        move t (1 ∷ []) $ split t $ move t (1 ∷ []) $ rewrite t 0 (λ (z : Cursor). ‵ (Cur.the-row .own z (v ∷ []))) (said .0) refl $ peeks t Cur.the-row (Is Cur.the-row) (shows 𝓤 H A Cur.the-row) (queuesAt (length out) place names payloads entries table count queues) (v ∷ []) (λ is. drop t $ split t $ move t (1 ∷ []) $ split t $ move t (1 ∷ []) $ split t $ move t (1 ∷ []) $ split t $ move t (1 ∷ []) $ split t $ lft-end t tt $ move t (1 ∷ []) $ drop t $ move t (6 ∷ []) $ split t $ move t (1 ∷ []) $ split t $ move t (1 ∷ []) $ split t $ move t (1 ∷ []) $ split t $
-        move t (5 ∷ 1 ∷ 10 ∷ []) $ use3 W (later (‵ (Hold u8 κ-out s-out γ-out b-out o-out n-out (ws .1 .1 .1 .1 .0)))) (back 𝓤 H A W u8 κ-out s-out γ-out b-out o-out ν-out n-out δ-out out (ws .1 .1 .1 .1 .0) room-out len-out (same-out ∙ len-out)) $ await t tt $ rewrite t 0 (λ (l : List ℕ). ‵ (Hold u8 κ-out s-out γ-out b-out o-out n-out l)) (said .1) refl $
-        move t (1 ∷ 5 ∷ []) $ fjoin t $
-        move t (2 ∷ 5 ∷ []) $ fjoin t $
-        move t (3 ∷ 5 ∷ []) $ fjoin t $
-        move t (4 ∷ 5 ∷ []) $ fjoin t $
-        subst (λ (u : Val). Seq K W (‵ (HoldShr u8 κ-names s-names γ-names b-names o-names n-names names) ∷ ‵ (HoldShr u8 κ-payloads s-payloads γ-payloads b-payloads o-payloads n-payloads payloads) ∷ ‵ (HoldShr Entry.the-row κ-entries s-entries γ-entries b-entries o-entries n-entries entries) ∷ ‵ (HoldShr u64 κ-table s-table γ-table b-table o-table n-table table) ∷ ‵ (Hold u8 κ-out s-out γ-out b-out o-out n-out (written out place (queuesTo names payloads entries table count queues))) ∷ Γ) (lands C Λ E d u rest p)) (sym (ap only (Cur′.lowers .val-is (queuesAt (length out) place names payloads entries table count queues) _ is))) (k (subst (Is Cur.the-row (queuesAt (length out) place names payloads entries table count queues)) (Cur′.lowers .val-is (queuesAt (length out) place names payloads entries table count queues) _ is) is) (ap length (sym (said .1)) ∙ same-out ∙ len-out))))))))))
-      where
-        args : (ν-out : ℕ) (δ-out : GName) → (RefT (List ℕ) × (RefT (List ℕ) × (RefT (List RecordEntry) × (RefT (List ℕ) × (RefT (List ℕ) × (ℕ × (ℕ × (ℕ × Unit {0}))))))))
-        args ν-out δ-out = (at-list u8 κ-names s-names γ-names b-names o-names n-names γ-names names, (at-list u8 κ-payloads s-payloads γ-payloads b-payloads o-payloads n-payloads γ-payloads payloads, (at-list Entry.the-row κ-entries s-entries γ-entries b-entries o-entries n-entries γ-entries entries, (at-list u64 κ-table s-table γ-table b-table o-table n-table γ-table table, (at-list u8 κ-out s-out γ-out b-out o-out n-out δ-out out, (place, (count, (queues, tt))))))))
-
-        Said : Cursor → List ℕ → Type 0
-        Said r l-out = (r ≡ queuesAt (length out) place names payloads entries table count queues) × (l-out ≡ written out place (queuesTo names payloads entries table count queues))
-
-        to : (ν-out : ℕ) (δ-out : GName) → (QueueLinesSays 𝓤 H A mem run) .Ghost
-        to ν-out δ-out = (((κ-names, (κ-payloads, (κ-entries, (κ-table, (ν-out ∷ [], tt))))), (s-names, (s-payloads, (s-entries, (s-table, (fullShare, tt))))), tt, (args ν-out δ-out), (slice u8 κ-names s-names γ-names b-names o-names n-names ∷ [], (slice u8 κ-payloads s-payloads γ-payloads b-payloads o-payloads n-payloads ∷ [], (slice Entry.the-row κ-entries s-entries γ-entries b-entries o-entries n-entries ∷ [], (slice u64 κ-table s-table γ-table b-table o-table n-table ∷ [], (slice u8 κ-out s-out γ-out b-out o-out n-out ∷ [], (vint w64 place ∷ [], (vint w64 count ∷ [], (vint w64 queues ∷ [], tt))))))))), tt)
-
-        asks : (ν-out : ℕ) (δ-out : GName) → ent 𝓤 (⋆ 𝓤 H A (‵ (flft κ-names s-names) ∷ ‵ (flft κ-payloads s-payloads) ∷ ‵ (flft κ-entries s-entries) ∷ ‵ (flft κ-table s-table) ∷ ‵ (flft (ν-out ∷ []) fullShare) ∷ ‵ (ShrSlice (named 0) κ-names u8 .own (at-list u8 κ-names s-names γ-names b-names o-names n-names γ-names names) (slice u8 κ-names s-names γ-names b-names o-names n-names ∷ [])) ∷ ‵ (ShrSlice (named 0) κ-payloads u8 .own (at-list u8 κ-payloads s-payloads γ-payloads b-payloads o-payloads n-payloads γ-payloads payloads) (slice u8 κ-payloads s-payloads γ-payloads b-payloads o-payloads n-payloads ∷ [])) ∷ ‵ (ShrSlice (named 0) κ-entries Entry.the-row .own (at-list Entry.the-row κ-entries s-entries γ-entries b-entries o-entries n-entries γ-entries entries) (slice Entry.the-row κ-entries s-entries γ-entries b-entries o-entries n-entries ∷ [])) ∷ ‵ (ShrSlice (named 0) κ-table u64 .own (at-list u64 κ-table s-table γ-table b-table o-table n-table γ-table table) (slice u64 κ-table s-table γ-table b-table o-table n-table ∷ [])) ∷ ‵ (MutSlice (named 0) (ν-out ∷ []) u8 .own (at-list u8 κ-out s-out γ-out b-out o-out n-out δ-out out) (slice u8 κ-out s-out γ-out b-out o-out n-out ∷ [])) ∷ [])) ((QueueLinesSays 𝓤 H A mem run) .pre (to ν-out δ-out))
-        asks ν-out δ-out = asks-queue-lines 𝓤 H A W mem run κ-names s-names γ-names b-names o-names n-names κ-payloads s-payloads γ-payloads b-payloads o-payloads n-payloads κ-entries s-entries γ-entries b-entries o-entries n-entries κ-table s-table γ-table b-table o-table n-table κ-out s-out γ-out b-out o-out n-out names payloads entries table out place place-is count count-is queues queues-is need ν-out δ-out
 
     pub end-lines! : K → FmC 𝓤 H (W .laws) C → Triple 𝓤 (C #listing·text·end-lines) (EndLinesSays 𝓤 H A mem run) → {κ-out : Lft} {s-out : Share} {γ-out : GName} {b-out o-out n-out : ℕ} (out : List ℕ) → length out ≡ n-out → Room u8 n-out → (place : ℕ) → place < 2 ^ 64 → (lost : ℕ) → lost < 2 ^ 64 → (resumed : ℕ) → resumed < 2 ^ 64 → (bytes : ℕ) → bytes < 2 ^ 64 → (LogFits resumed bytes) →
         ((j : Item 𝓤) → Opds K W (j ∷ Γ) E xs (slice u8 κ-out s-out γ-out b-out o-out n-out ∷ vint w64 place ∷ vint w64 lost ∷ vint w64 resumed ∷ vint w64 bytes ∷ []))

@@ -9,13 +9,14 @@ use native.Mathlib.Omega.{arith}
 use lib.Dec.{eqb}
 use lib.ListN.{length, take, drop, getD}
 use Rattle.queues.specs.declared.RecordEntry.{RecordEntry}
-use Rattle.queues.specs.Layout.{wordsFor}
-use Rattle.queues.specs.Changes.{blank, wordAt}
-use Rattle.listing.specs.Writing.{written, behind, cursor, Wrote}
+use Rattle.queues.specs.Layout.{wordsFor, blank}
+use Rattle.queues.specs.Changes.{wordAt}
+use Rattle.listing.specs.Writing.{written}
+use Rattle.listing.specs.Internal.{behind, cursor, Wrote}
 use Rattle.listing.specs.Passes.{rowLine, entryLine, counted, countTo, passedTo, linesTo, namesTo, queueText, queuesTo, recordsAt, queuesAt, EntriesFit, QueueFits, QueuesFit}
 use Rattle.listing.proofs.Writes.{length-written, wrote, on}
 
--- a second piece behind the first
+-- a second piece after the first
 module _ (s : List ℕ) (p : ℕ) (xs ys : List ℕ) where
   both-pieces : Wrote s p (xs ++ ys) (behind (length (written s p xs)) (behind (length s) p (length xs)) (length ys)) (written (written s p xs) (behind (length s) p (length xs)) ys)
   both-pieces = on (wrote {xs = xs} refl refl) (wrote {xs = ys} refl refl)

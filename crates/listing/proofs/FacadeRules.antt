@@ -39,9 +39,10 @@ use Rattle.listing.proofs.Listed.Laws as Lst′
 use lib.ListN.{length}
 use Rattle.queues.specs.Layout.{memory, meaning, arranged}
 use Rattle.listing.specs.Writing.{written, listed}
-use Rattle.listing.specs.Listing.{LogFits, listing, refusal}
-use Rattle.record_table.proofs.Hold.{Hold, Lent, Shared, at-list, slice, lends, back, shares, unshared}
-use Rattle.record_table.proofs.Calls.{calls-kept}
+use Rattle.listing.specs.Listing.{listing, refusal}
+use Rattle.listing.specs.Claims.{LogFits}
+use Rattle.mem_entries.proofs.Hold.{Hold, Lent, Shared, at-list, slice, lends, back, shares, unshared}
+use Rattle.mem_entries.proofs.Calls.{calls-kept}
 use Rattle.listing.proofs.Typed.{IsListed}
 use Rattle.listing.proofs.passes.list as list
 use Rattle.listing.proofs.passes.list.Symbol.{name as #listing·passes·list}

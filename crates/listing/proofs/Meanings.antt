@@ -12,13 +12,14 @@ use borrow.Author.Tests.{eqb-true}
 use Rattle.record.specs.Record.{Item, item}
 use Rattle.queues.specs.declared.RecordEntry.{RecordEntry}
 use Rattle.queues.specs.Queues.{Queue, queue, next}
-use Rattle.queues.specs.Layout.{Memory, memory, Arrived, rowAt, queuesHeld, recordsHeld, rowsFrom, rows, nameLengths, arrivals, lengths, itemsOf, queuesFrom, meaning, nextsTrue, arranged}
-use Rattle.queues.specs.Changes.{blank, wordAt}
+use Rattle.queues.specs.Layout.{Memory, memory, Arrived, rowAt, queuesHeld, recordsHeld, rowsFrom, rows, nameLengths, arrivals, lengths, itemsOf, queuesFrom, meaning, nextsTrue, arranged, blank}
+use Rattle.queues.specs.Changes.{wordAt}
 use Rattle.queues.proofs.Both.{and-left, and-right}
 use Rattle.queues.proofs.ArrangedFacts.{Arrangement, arranged-arrangement}
 use Rattle.queues.proofs.Arrivals.{items-append, arrivals-append, lengths-append}
 use Rattle.queues.proofs.SumsHeld.{queues-held}
-use Rattle.listing.specs.Writing.{written, behind, listed, Wrote}
+use Rattle.listing.specs.Writing.{written, listed}
+use Rattle.listing.specs.Internal.{behind, Wrote}
 use Rattle.listing.specs.Listing.{queuesWord, numberLine, headLine, queueLine, recordLine, recordLines, queueLines, endLines, listing}
 use Rattle.listing.specs.Passes.{rowLine, entryLine, counted, countTo, passedTo, linesTo, namesTo, queueText, queuesTo, QueuesFit}
 use Rattle.listing.proofs.Writes.{length-written, wrote, on, reads, listed-behind}
@@ -87,7 +88,7 @@ module _ (k : ℕ) (es : List RecordEntry) (ps : List ℕ) where
 
 -- ---- the rows
 
--- the words of row j, and the rows behind it
+-- the words of row j, and the rows after it
 word-is : (t : List ℕ) (j i : ℕ) → getD (drop (rowAt j) t) i 0 ≡ wordAt t j i
 word-is t j i = getD-drop (rowAt j) t i 0
 

@@ -10,7 +10,7 @@ use lib.ListN.{length, take, getD}
 use lib.Seq.{take-suc, take-all}
 use borrow.Author.Tests.{ltb-true, ltb-false, lt-ltb, le-ltb}
 use Rattle.listing.specs.Digits.{digit, hexRun, hex, decimalIn, decimal}
-use Rattle.listing.specs.Writing.{Wrote}
+use Rattle.listing.specs.Internal.{Wrote}
 use Rattle.listing.proofs.Writes.{by-test, wrote-none, on, reads}
 
 pub digit-low : (d r : ℕ) → d < 10 → r ≡ 48 + d → r ≡ digit d

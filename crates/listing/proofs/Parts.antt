@@ -4,7 +4,7 @@ use mathlib.Core.List.{List}
 use Prim.Native.Nat.{ℕ, _/_, _%_}
 use Rattle.record.specs.Record.{item}
 use Rattle.listing.specs.Digits.{hex, decimal}
-use Rattle.listing.specs.Writing.{Wrote}
+use Rattle.listing.specs.Internal.{Wrote}
 use Rattle.listing.specs.Listing.{queueWord, startWord, nextWord, heldWord, recordWord, fillWord, space, point, lineFeed, numbered, numberLine, headLine, recordLine, fillLine}
 use Rattle.listing.proofs.Writes.{on}
 

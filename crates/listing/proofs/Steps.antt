@@ -10,7 +10,8 @@ use Rattle.record.specs.Record.{item}
 use Rattle.queues.specs.declared.RecordEntry.{RecordEntry}
 use Rattle.queues.specs.Changes.{wordAt}
 use Rattle.listing.specs.declared.Listed.{Listed}
-use Rattle.listing.specs.Writing.{Wrote, written, behind, cursor, listed}
+use Rattle.listing.specs.Writing.{written, listed}
+use Rattle.listing.specs.Internal.{Wrote, behind, cursor}
 use Rattle.listing.specs.Listing.{lostWord, refusedWord, numberLine, headLine, recordLine, fillTenths, fillLine, endLines, refusal}
 use Rattle.listing.specs.Passes.{rowLine, entryLine, counted}
 use Rattle.listing.proofs.Writes.{wrote-length, wrote-none, on, reads, listed-behind}

@@ -11,7 +11,8 @@ use lib.ListN.{length, take, getD, set, length-set, length-append}
 use lib.Seq.{sets, length-sets, set-out, take-suc, take-all}
 use borrow.Author.Tests.{ltb-true, ltb-false, lt-ltb, le-ltb, leb-true, leb-false, le-leb, lt-leb}
 use Rattle.listing.specs.declared.Listed.the-variants.{Bytes as bytes, NoRoom as noRoom}
-use Rattle.listing.specs.Writing.{written, stepped, behind, Wrote, listed}
+use Rattle.listing.specs.Writing.{written, listed}
+use Rattle.listing.specs.Internal.{stepped, behind, Wrote}
 
 -- by cases on a test
 pub by-test : {A : Type 0} (b : Bool) → (b ≡ true → A) → (b ≡ false → A) → A
@@ -51,7 +52,7 @@ unfolding behind
 behind-add n p zero k = let e : 0 + k ≡ k = omega arith in ap (behind n p) e
 behind-add n p (suc j) k = let e : suc j + k ≡ suc (j + k) = omega arith in ap (behind n p) e ∙ behind-add n (stepped n p) j k
 
--- a second piece, behind a first
+-- a second piece, after a first
 sets-append : (s : List ℕ) (p : ℕ) (xs ys : List ℕ) → sets s p (xs ++ ys) ≡ sets (sets s p xs) (behind (length s) p (length xs)) ys
 unfolding behind
 sets-append s p [] ys = refl
@@ -84,7 +85,7 @@ wrote-none s p = record { place = refl; buffer = refl }
 pub wrote-length : {s t : List ℕ} {p q : ℕ} {xs : List ℕ} → Wrote s p xs q t → length t ≡ length s
 wrote-length {s} {t} {p} {q} {xs} w = ap length (w .buffer) ∙ length-written s p xs
 
--- a second piece behind the first
+-- a second piece after the first
 pub on : {s t u : List ℕ} {p q r : ℕ} {xs ys : List ℕ} → Wrote s p xs q t → Wrote t q ys r u → Wrote s p (xs ++ ys) r u
 on {s} {t} {u} {p} {q} {r} {xs} {ys} w v =
     record {
@@ -126,7 +127,7 @@ pub listed-no-room : (n k : ℕ) → n < k → noRoom ≡ listed n k
 unfolding listed
 listed-no-room n k h = simp (lt-leb k n h)
 
--- the place behind k bytes from p on, which is at most n: where they fit, and where not
+-- the place after k bytes from p on, which is at most n: where they fit, and where not
 pub behind-in : (n p k : ℕ) → p + k ≤ n → behind n p k ≡ p + k
 unfolding behind
 behind-in n p zero h = omega arith

@@ -1,9 +1,10 @@
+-- Claim.
 -- What is claimed of the text and of writing it; each is proved in proofs/ under the same name with hyphens.
 -- Assumes nothing.
 use mathlib.Core.Path.{_≡_}
 use mathlib.Core.Bool.{true, cond}
 use mathlib.Core.List.{List, [], _∷_, _++_}
-use Prim.Native.Nat.{ℕ, _+_, _*_, _-_, _^_, _≤_, _<_}
+use Prim.Native.Nat.{ℕ, _+_, _*_, _-_, _^_, _≤_, _<_, _/_}
 use lib.Dec.{ltb}
 use lib.ListN.{length, take}
 use Rattle.slices.specs.Bytes.{Bytes}
@@ -13,7 +14,7 @@ use Rattle.queues.specs.Queues.{Queue, queue, nameBytes, recordCount, payloadBy
 use Rattle.queues.specs.Layout.{Memory, meaning, arranged}
 use Rattle.listing.specs.Digits.{hexRun, decimal}
 use Rattle.listing.specs.Writing.{written}
-use Rattle.listing.specs.Listing.{halvesUp, fillTenths, listing, refusal, LogFits}
+use Rattle.listing.specs.Listing.{halvesUp, fillTenths, listing, refusal}
 
 -- ---- 01's example
 
@@ -102,6 +103,12 @@ abbrev pub WrittenShort : Type 0
 WrittenShort = (s xs : List ℕ) → length s ≤ length xs → written s 0 xs ≡ take (length s) xs
 
 -- ---- how long a text gets
+
+-- the fill of a log of n bytes can be told: it has a block and at most 4,096, and the resume point lies in it
+pub record LogFits (resumed n : ℕ) : Type 0 where
+  pub a-block : 32768 ≤ n
+  pub few-blocks : n / 32768 ≤ 4096
+  pub inside : resumed ≤ n
 
 -- with the sizes that 01 gives `readout`: "64 queues, 1,024 records, 32,768 payload bytes and 32,768 name bytes"
 abbrev pub ListingShort : Type 0

@@ -1,3 +1,4 @@
+-- Definition (01, "Readout").
 -- 01, "Readout": numbers in decimal, and names and payloads in "lower-case hex, "-" when empty". Characters are their ASCII codes.
 -- Assumes nothing.
 use mathlib.Core.Bool.{cond}

@@ -1,8 +1,9 @@
+-- Definition (01, "Readout").
 -- 01, "Readout": the text that is listed for the queues, the number of corruption answers and the resume point, line by line.
 -- Characters are their ASCII codes; each line ends with a line feed, 10.
 -- Assumes nothing.
 use mathlib.Core.List.{List, [], _∷_, _++_}
-use Prim.Native.Nat.{ℕ, _+_, _*_, _/_, _%_, _≤_}
+use Prim.Native.Nat.{ℕ, _+_, _*_, _/_, _%_}
 use lib.ListN.{length}
 use Rattle.record.specs.Record.{Item}
 use Rattle.queues.specs.Queues.{Queue, next}
@@ -101,12 +102,6 @@ fillTenths resumed n = halvesUp (1000 * resumed) (wholeBytes n)
 
 unfoldable pub fillLine : ℕ → List ℕ
 fillLine t = numbered fillWord (t / 10) ++ numberLine point (t % 10)
-
--- the fill of a log of n bytes can be told: it has a block and at most 4,096, and the resume point lies in it
-pub record LogFits (resumed n : ℕ) : Type 0 where
-  pub a-block : 32768 ≤ n
-  pub few-blocks : n / 32768 ≤ 4096
-  pub inside : resumed ≤ n
 
 -- ---- the whole
 

@@ -1,3 +1,4 @@
+-- Helper: for proofs; no promise rests on reading it.
 -- What the passes over the record table and the table of queues count and write, by how many entries or rows they have passed.
 -- Assumes nothing.
 use mathlib.Core.Bool.{cond}
@@ -7,11 +8,11 @@ use lib.Dec.{eqb}
 use lib.ListN.{length, take, drop, getD}
 use Rattle.record.specs.Record.{item}
 use Rattle.queues.specs.declared.RecordEntry.{RecordEntry}
-use Rattle.queues.specs.Layout.{rowAt, wordsFor}
-use Rattle.queues.specs.Changes.{blank, wordAt}
+use Rattle.queues.specs.Layout.{rowAt, wordsFor, blank}
+use Rattle.queues.specs.Changes.{wordAt}
 use Rattle.queues.specs.Access.{RowFits}
 use Rattle.listing.specs.declared.Cursor.{Cursor}
-use Rattle.listing.specs.Writing.{behind, cursor}
+use Rattle.listing.specs.Internal.{behind, cursor}
 use Rattle.listing.specs.Listing.{headLine, recordLine}
 
 -- ---- one entry, one row
@@ -24,7 +25,7 @@ entryLine k e xs = cond (eqb (e .queue) k) (recordLine (item (e .position) xs)) 
 unfoldable pub counted : ℕ → RecordEntry → ℕ → ℕ
 counted k e n = cond (eqb (e .queue) k) (n + 1) n
 
--- the line of the queue with row k, whose name stands behind q bytes of the names
+-- the line of the queue with row k, whose name stands after q bytes of the names
 unfoldable pub rowLine : List ℕ → List ℕ → ℕ → ℕ → ℕ → List ℕ
 rowLine ns t q k held = headLine (take (wordAt t k 0) (drop q ns)) (wordAt t k 1) (wordAt t k 2) held
 
@@ -55,7 +56,7 @@ unfoldable pub namesTo : List ℕ → ℕ → ℕ
 namesTo t zero = 0
 namesTo t (suc k) = namesTo t k + wordAt t k 0
 
--- the lines of queue k, whose name stands behind q bytes: its own, and those of its records among the first n entries
+-- the lines of queue k, whose name stands after q bytes: its own, and those of its records among the first n entries
 unfoldable pub queueText : List ℕ → List ℕ → List RecordEntry → List ℕ → ℕ → ℕ → ℕ → List ℕ
 queueText ns ps es t n q k = rowLine ns t q k (countTo k es n) ++ linesTo k es ps n
 
@@ -81,7 +82,7 @@ pub record EntriesFit (es : List RecordEntry) (ps : List ℕ) (n : ℕ) : Type 0
   pub in-table : n ≤ length es
   pub in-payloads : passedTo es n ≤ length ps
 
--- row k and the name behind q bytes too
+-- row k and the name after q bytes too
 pub record QueueFits (ns ps : List ℕ) (es : List RecordEntry) (t : List ℕ) (n q k : ℕ) : Type 0 where
   pub entries : EntriesFit es ps n
   pub row-fits : rowAt (k + 1) ≤ length t

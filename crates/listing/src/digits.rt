@@ -2,7 +2,7 @@
 ghost use mathlib.Core.Path.{_≡_};
 ghost use mathlib.Core.List.{[], _∷_};
 ghost use Prim.Native.Nat.{_<_};
-ghost use Rattle.listing.specs.Writing.{Wrote};
+ghost use Rattle.listing.specs.Internal.{Wrote};
 ghost use Rattle.listing.specs.Digits.{digit, hexRun, hex, decimal};
 use crate::write::put_byte;
 

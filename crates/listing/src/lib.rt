@@ -8,7 +8,7 @@ mod write;
 pub use passes::list;
 pub use text::refused;
 
-// What became of a text: it stands in the buffer, in so many bytes, or the buffer is too short for it.
+// What became of a text: it stands in the buffer, in this many bytes, or the buffer is too short for it.
 pub enum Listed {
     Bytes(usize),
     NoRoom,

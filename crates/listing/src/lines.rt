@@ -1,8 +1,10 @@
 // The lines of the listing.
 ghost use mathlib.Core.Path.{_≡_};
 ghost use Prim.Native.Nat.{_+_, _<_, _^_, _*_};
-ghost use Rattle.listing.specs.Writing.{Wrote, listed};
-ghost use Rattle.listing.specs.Listing.{numbered, numberLine, headLine, recordLine, fillLine, fillTenths, halvesUp, LogFits};
+ghost use Rattle.listing.specs.Writing.{listed};
+ghost use Rattle.listing.specs.Internal.{Wrote};
+ghost use Rattle.listing.specs.Listing.{numbered, numberLine, headLine, recordLine, fillLine, fillTenths, halvesUp};
+ghost use Rattle.listing.specs.Claims.{LogFits};
 ghost use Rattle.record.specs.Record.{item};
 use crate::Listed;
 use crate::digits::put_decimal;

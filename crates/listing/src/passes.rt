@@ -5,9 +5,11 @@ ghost use Prim.Native.Nat.{_+_, _≤_};
 ghost use lib.ListN.{length};
 ghost use Rattle.queues.specs.Layout.{memory, meaning, arranged};
 ghost use Rattle.queues.specs.Changes.{wordAt};
-ghost use Rattle.listing.specs.Writing.{written, WrotePast, Lists};
-ghost use Rattle.listing.specs.Listing.{listing, LogFits};
-ghost use Rattle.listing.specs.Passes.{countTo, linesTo, queueText, queuesTo, recordsAt, queuesAt, EntriesFit, QueueFits, QueuesFit};
+ghost use Rattle.listing.specs.Writing.{written};
+ghost use Rattle.listing.specs.Internal.{WrotePast, Lists};
+ghost use Rattle.listing.specs.Listing.{listing};
+ghost use Rattle.listing.specs.Claims.{LogFits};
+ghost use Rattle.listing.specs.Passes.{countTo, linesTo, queueText, recordsAt, EntriesFit, QueueFits};
 use crate::Cursor;
 use crate::Listed;
 use crate::text::count_entry;
@@ -16,9 +18,9 @@ use crate::text::entry_line;
 use crate::text::past_queue;
 use crate::text::queues_line;
 use crate::text::row_line;
+use mem_entries::entry_at;
+use mem_names::table::held;
 use queues::RecordEntry;
-use record_table::entry_at;
-use tables::table::held;
 
 // How many of the first entries are of this queue.
 pub fn held_of(entries: &[RecordEntry], count: usize, queue: usize) -> usize
@@ -81,32 +83,6 @@ pub fn queue_text(
     past_queue(row, lines)
 }
 
-// The lines of the first queues.
-pub fn queue_lines(
-    names: &[u8],
-    payloads: &[u8],
-    entries: &[RecordEntry],
-    table: &[u64],
-    out: &mut [u8],
-    at: usize,
-    count: usize,
-    queues: usize,
-) -> Cursor
-    requires { ⌜ QueuesFit (now names) (now payloads) (now entries) (now table) count queues ⌝ }
-    ensures { λ r. ⌜ (r ≡ queuesAt (length (now (out .entry))) at
-        (now (names .entry)) (now (payloads .entry)) (now (entries .entry)) (now (table .entry)) count queues)
-        × (now (out .exit) ≡ written (now (out .entry)) at
-        (queuesTo (now (names .entry)) (now (payloads .entry)) (now (entries .entry)) (now (table .entry)) count queues)) ⌝ }
-{
-    let mut from = Cursor { at: at, passed: 0 };
-    let mut k: usize = 0;
-    while k < queues {
-        from = queue_text(names, payloads, entries, table, out, from, count, k);
-        k += 1;
-    }
-    from
-}
-
 // The listing of a memory that is arranged, from the buffer's start on.
 pub fn list(
     names: &[u8],
@@ -126,15 +102,14 @@ pub fn list(
 {
     let sums = held(table);
     let first = queues_line(out, sums.queues);
-    let last = queue_lines(
-        names,
-        payloads,
-        entries,
-        table,
-        out,
-        first,
-        sums.records,
-        sums.queues,
-    );
-    end_lines(out, last.at, lost, resumed, log_bytes)
+    let mut from = Cursor {
+        at: first,
+        passed: 0,
+    };
+    let mut k: usize = 0;
+    while k < sums.queues {
+        from = queue_text(names, payloads, entries, table, out, from, sums.records, k);
+        k += 1;
+    }
+    end_lines(out, from.at, lost, resumed, log_bytes)
 }

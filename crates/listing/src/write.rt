@@ -1,6 +1,6 @@
-// Bytes written at a place of a lent buffer. A byte that does not fit is dropped, and the place behind it is one past the buffer's end.
+// Bytes written at a place of a lent buffer. A byte that does not fit is dropped, and the place after it is one past the buffer's end.
 ghost use mathlib.Core.List.{[], _∷_};
-ghost use Rattle.listing.specs.Writing.{Wrote};
+ghost use Rattle.listing.specs.Internal.{Wrote};
 
 pub fn put_byte(out: &mut [u8], at: usize, b: u8) -> usize
     ensures { λ r. ⌜ Wrote (now (out .entry)) at (b ∷ []) r (now (out .exit)) ⌝ }

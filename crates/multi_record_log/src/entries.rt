@@ -1,5 +1,5 @@
 // The same over a record table of entries and a table of queues of words.
-pub use asking::question;
-pub use calling::call;
-pub use ranging::range;
-pub use replays::replay;
+pub use call::call;
+pub use question::question;
+pub use question::range;
+pub use replay::replay;

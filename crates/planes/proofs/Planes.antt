@@ -15,7 +15,7 @@ use Rattle.planes.proofs.Fits.{fits}
 use Rattle.planes.proofs.Runs.{length-crossed, crossed-at, crossed-back}
 use Rattle.planes.proofs.Total.{total-crossed}
 
--- what the width divides is so many readings of it
+-- what the width divides is this many readings of it
 pub readings : (w : ℕ) (xs : List ℕ) → length xs % w ≡ 0 → length xs ≡ length xs / w * w
 readings w xs h = omega (arith, div-add-mod' (length xs) w)
 

@@ -7,7 +7,8 @@ use native.Mathlib.Nat.{suc-mul, zero-mul}
 use native.Mathlib.Omega.{arith}
 use lib.ListN.{length, getD, drop, length-drop}
 use lib.Seq.{getD-drop}
-use Rattle.planes.specs.Planes.{every, runs, crossed, total}
+use Rattle.planes.specs.Planes.{every, runs, crossed}
+use Rattle.planes.specs.Claims.{total}
 
 -- f 0 + f 1 + .. + f (n - 1)
 abbrev sum : ℕ → (ℕ → ℕ) → ℕ

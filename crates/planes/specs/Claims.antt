@@ -1,10 +1,11 @@
+-- Claim.
 -- What is claimed of readings and planes, for every width above 0 and every list whose length it divides. 02: "The fact is proved for every width together".
 -- Assumes nothing.
 use mathlib.Core.Path.{_≡_}
 use mathlib.Core.List.{List, [], _∷_}
 use Prim.Native.Nat.{ℕ, _+_, _*_, _/_, _%_, _<_}
 use lib.ListN.{length, getD}
-use Rattle.planes.specs.Planes.{toPlanes, fromPlanes, total}
+use Rattle.planes.specs.Planes.{toPlanes, fromPlanes}
 use Rattle.planes.specs.Step.{stepAnswer, toPlanesLeft, fromPlanesLeft}
 use Rattle.planes.specs.declared.PlanesAnswer.the-variants.{Done as done}
 
@@ -19,6 +20,11 @@ PlanesComeBack = (w : ℕ) (ys : List ℕ) → 0 < w → length ys % w ≡ 0 →
 -- both ways the length stays
 abbrev pub SameLength : Type 0
 SameLength = (w : ℕ) (xs : List ℕ) → 0 < w → length xs % w ≡ 0 → (length (toPlanes w xs) ≡ length xs) × (length (fromPlanes w xs) ≡ length xs)
+
+-- "the total of the payload's byte values"
+unfoldable pub total : List ℕ → ℕ
+total [] = 0
+total (x ∷ xs) = x + total xs
 
 -- "the total of the payload's byte values is unchanged", both ways
 abbrev pub SameTotal : Type 0

@@ -1,3 +1,4 @@
+-- Definition (02, "Ticket 13").
 -- Readings and byte planes, for every width. 02: "a payload is rearranged before append: first byte 0 of every reading, then byte 1, and so on. The inverse
 -- restores it".
 -- Assumes nothing.
@@ -10,7 +11,7 @@ unfoldable pub every : ℕ → ℕ → ℕ → List ℕ → List ℕ
 every step zero at xs = []
 every step (suc n) at xs = getD xs at 0 ∷ every step n (at + step) xs
 
--- m such runs, one behind the other: from byte `at` on, from byte `at` + 1 on, ..
+-- m such runs, one after the other: from byte `at` on, from byte `at` + 1 on, ..
 unfoldable pub runs : ℕ → ℕ → ℕ → ℕ → List ℕ → List ℕ
 runs step n zero at xs = []
 runs step n (suc m) at xs = every step n at xs ++ runs step n m (suc at) xs
@@ -26,8 +27,3 @@ toPlanes w xs = crossed w (length xs / w) xs
 -- "The inverse restores it": the readings again, w bytes each; reading i is byte i and every n-th after it, n the count of readings
 abbrev pub fromPlanes : ℕ → List ℕ → List ℕ
 fromPlanes w ys = crossed (length ys / w) w ys
-
--- "the total of the payload's byte values"
-unfoldable pub total : List ℕ → ℕ
-total [] = 0
-total (x ∷ xs) = x + total xs

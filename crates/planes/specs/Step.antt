@@ -1,3 +1,4 @@
+-- Definition (02, "Ticket 13").
 -- What the step to planes, and the one from planes, answers and leaves of the target.
 -- Assumes nothing.
 use mathlib.Core.Bool.{Bool, true, false, _&&_}
@@ -27,7 +28,7 @@ planesLeft false made before = before
 abbrev pub stepAnswer : ℕ → List ℕ → List ℕ → PlanesAnswer
 stepAnswer width payload target = planesAnswer (planesFit width (length payload) (length target))
 
--- the target behind the step to planes, and behind the step from planes
+-- the target after the step to planes, and after the step from planes
 abbrev pub toPlanesLeft : ℕ → List ℕ → List ℕ → List ℕ
 toPlanesLeft width payload target = planesLeft (planesFit width (length payload) (length target)) (toPlanes width payload) target
 

@@ -27,7 +27,7 @@ pub fn number(answer: PlanesAnswer) -> u64
     }
 }
 
-// Whether the step is taken, for readings of so many bytes, a payload and a target of these lengths.
+// Whether the step is taken, for readings of this many bytes, a payload and a target of these lengths.
 fn planes_fit(width: u64, payload: usize, target: usize) -> bool
     ensures { λ r. ⌜ r ≡ planesFit width payload target ⌝ }
 {

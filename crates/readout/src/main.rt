@@ -27,7 +27,7 @@ fn cut_or_failed(error: i32) -> State {
     }
 }
 
-// One read, behind the first `from` bytes. A full buffer ends the input: nothing more is asked for.
+// One read, after the first `from` bytes. A full buffer ends the input: nothing more is asked for.
 fn read_on(input: &mut [u8], from: usize) -> Reading
     ensures { λ r. ⌜ r .«bytes» ≤ length (now (input .exit)) ⌝ }
 {
@@ -80,7 +80,7 @@ fn read_input(input: &mut [u8]) -> Reading
 
 fn show(input: &[u8]) {
     let mut out = [0u8; 167461];
-    let Listed::Bytes(n) = card::list_card(input, &mut out) else {
+    let Listed::Bytes(n) = readout_text::list_card(input, &mut out) else {
         return;
     };
     if !io::write_all(libc::STDOUT_FILENO, &out[..n]) {

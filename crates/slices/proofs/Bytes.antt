@@ -1,4 +1,4 @@
--- Bytes in parts, one run behind another, and zeros.
+-- Bytes in parts, one run after another, and zeros.
 -- Assumes nothing.
 use mathlib.Core.List.{List, [], _∷_, _++_}
 use Prim.Native.Nat.{ℕ, zero, suc, _<_}

@@ -43,7 +43,7 @@ only-false false h = refl
 pub same-lengths : (xs ys : List ℕ) → (length xs ≡ length ys → ⊥) → false ≡ sameBytes xs ys
 same-lengths xs ys h = only-false (sameBytes xs ys) (λ e. h (ap length (same-equal xs ys e)))
 
--- run behind run
+-- run after run
 pub same-append : (xs ys zs ws : List ℕ) → length xs ≡ length zs → sameBytes (xs ++ ys) (zs ++ ws) ≡ sameBytes xs zs && sameBytes ys ws
 unfolding sameBytes
 same-append [] ys [] ws h = refl

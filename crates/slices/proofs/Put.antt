@@ -1,4 +1,4 @@
--- Runs of bytes put into a slice: lengths, what stands before, in and behind a run, and runs put one after another.
+-- Runs of bytes put into a slice: lengths, what stands before, in and after a run, and runs put one after another.
 -- Assumes nothing.
 use mathlib.Core.Path.{_≡_, refl, sym, ap, ap₂, _∙_}
 use mathlib.Core.List.{List, [], _∷_, _++_, append-assoc, append-nil}
@@ -82,7 +82,7 @@ module _ (s : List ℕ) (p : ℕ) (xs : List ℕ) (h : p + length xs ≤ length 
   pub put-run : take (length xs) (drop p (put s p xs)) ≡ xs
   put-run = ap (take (length xs)) drop-put ∙ take-at xs (drop (p + length xs) s) (length xs) refl
 
-  -- what stands behind it
+  -- what stands after it
   pub drop-put-behind : (n : ℕ) → p + length xs ≤ n → drop n (put s p xs) ≡ drop n s
   drop-put-behind n l =
       let e : p + length xs + (n - (p + length xs)) ≡ n = omega arith in
@@ -93,7 +93,7 @@ module _ (s : List ℕ) (p : ℕ) (xs : List ℕ) (h : p + length xs ≤ length 
       ∙ drop-drop (n - (p + length xs)) (p + length xs) s
       ∙ ap (λ (i : ℕ). drop i s) e
 
-  -- a part before it, and one behind it
+  -- a part before it, and one after it
   pub part-before : (q n : ℕ) → q + n ≤ p → take n (drop q (put s p xs)) ≡ take n (drop q s)
   part-before q n l = part-of q n (put s p xs) (omega (arith, length-put)) ∙ ap (drop q) (take-put (q + n) l) ∙ sym (part-of q n s (omega arith))
     where
@@ -103,7 +103,7 @@ module _ (s : List ℕ) (p : ℕ) (xs : List ℕ) (h : p + length xs ≤ length 
   pub part-behind : (q n : ℕ) → p + length xs ≤ q → take n (drop q (put s p xs)) ≡ take n (drop q s)
   part-behind q n l = ap (take n) (drop-put-behind q l)
 
-  -- a byte before it, of it, and behind it
+  -- a byte before it, of it, and after it
   pub getD-put-before : (n : ℕ) → n < p → getD (put s p xs) n 0 ≡ getD s n 0
   getD-put-before n l =
       sym (getD-take p (put s p xs) n 0 l) ∙ ap (λ (t : List ℕ). getD t n 0) (take-put p (omega arith)) ∙ getD-take p s n 0 l
@@ -122,7 +122,7 @@ module _ (s : List ℕ) (p : ℕ) (xs : List ℕ) (h : p + length xs ≤ length 
       ∙ getD-drop n s 0 0
       ∙ ap (λ (i : ℕ). getD s i 0) e
 
--- two runs, one behind the other
+-- two runs, one after the other
 pub put-put : (s : List ℕ) (p : ℕ) (xs ys : List ℕ) → p + length xs + length ys ≤ length s → put (put s p xs) (p + length xs) ys ≡ put s p (xs ++ ys)
 put-put s p xs ys h =
     let all : p + length xs + length ys ≡ p + length (xs ++ ys) = omega (arith, length-append xs ys) in

@@ -1,3 +1,4 @@
+-- Definition (01, "The call").
 -- Lists of bytes.
 -- Assumes nothing.
 use mathlib.Core.List.{List}

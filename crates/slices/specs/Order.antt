@@ -1,3 +1,4 @@
+-- Definition (01, "Readout").
 -- Byte order of two runs of bytes: the first byte that differs decides; where one run ends first, it is the lower one.
 -- Assumes nothing.
 use mathlib.Core.Bool.{Bool, true, false}

@@ -1,3 +1,4 @@
+-- Definition (01, "The call").
 -- What storing a run of bytes into a slice leaves.
 -- Assumes nothing.
 use mathlib.Core.List.{List, _++_}

@@ -1,3 +1,4 @@
+-- Helper: for proofs; no promise rests on reading it.
 -- Whether two runs of bytes are the same.
 -- Assumes nothing.
 use mathlib.Core.Bool.{Bool, true, false, _&&_}

@@ -1,3 +1,4 @@
+-- Definition (01, "The call").
 -- UTF-8 by the grammar of RFC 3629, section 4, rule for rule: what "UTF-8" means of a name (01, refusal 3).
 -- Above each part of the grammar stands the RFC's own line.
 -- Assumes nothing.
@@ -18,7 +19,7 @@ range a b = record { low = a; high = b }
 unfoldable pub among : Range → ℕ → Bool
 among r x = leb (r .low) x && leb x (r .high)
 
--- One way to write a character: a first octet, and octets behind it, one in each range.
+-- One way to write a character: a first octet, and octets after it, one in each range.
 pub record Rule : Type 0 where
   pub first : Range
   pub behind : List Range

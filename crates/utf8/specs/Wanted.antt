@@ -1,3 +1,4 @@
+-- Helper: for proofs; no promise rests on reading it.
 -- What the code's own state means: how it stands for the ranges that the grammar still wants.
 -- Assumes nothing.
 use mathlib.Core.List.{List, [], _∷_}
@@ -8,7 +9,7 @@ use Rattle.utf8.specs.declared.Wanted.{Wanted}
 use Rattle.utf8.specs.declared.Next.{Next}
 use Rattle.utf8.specs.declared.Next.the-variants.{Wants, Refused}
 
--- so many octets: the next one in a range, each further one a UTF8-tail
+-- this many octets: the next one in a range, each further one a UTF8-tail
 unfoldable pub ranges : ℕ → Range → List Range
 ranges zero r = []
 ranges (suc n) r = r ∷ replicate n tail

@@ -23,7 +23,7 @@ fn wants(low: u8, high: u8, left: u8) -> Next
     Next::Wants(Wanted { low, high, left })
 }
 
-// What the first byte of a character wants behind it: the rules of the RFC's grammar.
+// What the first byte of a character wants after it: the rules of the RFC's grammar.
 fn begin(b: u8) -> Next
     ensures { λ r. ⌜ follow r ≡ begun grammar b ⌝ }
 {

@@ -1,7 +1,7 @@
 //! Writes the stored sample of the Rust's answers: `sample [FOLDER [SEED]]` makes FOLDER/stdin, lists of commands, and FOLDER/stdout, what the Rust answers to
-//! them. FOLDER is crates/rust_answers by default, whose program replays the list. Nothing here runs the port.
+//! them. FOLDER is crates/test_rust_answers by default, whose program replays the list. Nothing here runs the port.
 //!
-//! A command is a line of words and decimals, as the head of crates/commands/src/lib.rt lists them.
+//! A command is a line of words and decimals, as the head of crates/test_commands/src/lib.rt lists them.
 
 use std::fmt::Write as _;
 use std::fs;
@@ -746,7 +746,7 @@ fn random_logs(sample: &mut Sample, random: &mut Random) {
 
 fn main() {
     let mut arguments = std::env::args().skip(1);
-    let default = PathBuf::from(env!("CARGO_MANIFEST_DIR")).join("../crates/rust_answers");
+    let default = PathBuf::from(env!("CARGO_MANIFEST_DIR")).join("../crates/test_rust_answers");
     let folder = arguments.next().map(PathBuf::from).unwrap_or(default);
     let seed = arguments.next().map_or(1, |seed| seed.parse().expect("a seed"));
     let mut random = Random::new(seed);

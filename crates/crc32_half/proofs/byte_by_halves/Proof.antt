@@ -1,4 +1,4 @@
--- `crc32_half::byte_by_halves` meets its contract: the byte's share with nothing behind it, and the register shifted down.
+-- `crc32_half::byte_by_halves` meets its contract: the byte's share with nothing after it, and the register shifted down.
 -- Assumes nothing.
 use mathlib.Core.Path.{ap, _∙_}
 use Prim.Native.Nat.{ℕ, _/_, _^_}

@@ -1,4 +1,4 @@
--- `fields::put_u16` meets its contract: two numbers of width 1, one behind the other.
+-- `fields::put_u16` meets its contract: two numbers of width 1, one after the other.
 -- Assumes nothing.
 use Prim.Native.Nat.{_+_, _%_, _/_}
 use native.Mathlib.Omega.{arith}

@@ -1,4 +1,4 @@
--- `fields::put_u32` meets its contract: two numbers of width 2, one behind the other.
+-- `fields::put_u32` meets its contract: two numbers of width 2, one after the other.
 -- Assumes nothing.
 use native.Mathlib.Omega.{arith}
 use Rattle.fields.proofs.Le.{put-parts}

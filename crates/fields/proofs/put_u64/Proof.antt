@@ -1,4 +1,4 @@
--- `fields::put_u64` meets its contract: two numbers of width 4, one behind the other.
+-- `fields::put_u64` meets its contract: two numbers of width 4, one after the other.
 -- Assumes nothing.
 use native.Mathlib.Omega.{arith}
 use Rattle.fields.proofs.Le.{put-parts}

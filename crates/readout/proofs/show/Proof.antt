@@ -2,7 +2,7 @@
 -- Assumes nothing.
 use mathlib.Core.Path.{sym}
 use lib.Seq.{length-take-le}
-use Rattle.card.proofs.Short.{in-the-buffer}
+use Rattle.readout_text.proofs.Short.{in-the-buffer}
 use borrow.Author.Needs.{needs}
 use Rattle.readout.proofs.show.Statement.{statement}
 use Rattle.readout.proofs.show.Tie as tie

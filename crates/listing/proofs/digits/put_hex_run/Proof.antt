@@ -5,7 +5,7 @@ use native.Mathlib.Omega.{arith}
 use borrow.Author.Needs.{needs}
 use lib.ListN.{length, take}
 use Rattle.listing.specs.Digits.{hexRun}
-use Rattle.listing.specs.Writing.{Wrote}
+use Rattle.listing.specs.Internal.{Wrote}
 use Rattle.listing.proofs.Writes.{wrote-length}
 use Rattle.listing.proofs.Notation.{hex-start, hex-turn, hex-end}
 use Rattle.listing.proofs.digits.put_hex_run.Statement.{statement}

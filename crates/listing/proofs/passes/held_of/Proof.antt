@@ -44,17 +44,17 @@ use Rattle.queues.specs.declared.RecordEntry.{RecordEntry}
 use Rattle.queues.proofs.RecordEntry as Entry
 use Rattle.queues.proofs.RecordEntry.Laws as Entry′
 use lib.ListN.{length, getD}
-use Rattle.queues.specs.Changes.{blank}
+use Rattle.queues.specs.Layout.{blank}
 use Rattle.listing.specs.Writing.{written}
 use Rattle.listing.specs.Passes.{countTo}
 use Rattle.listing.proofs.Counting.{count-zero, count-next, count-below}
-use Rattle.record_table.proofs.Hold.{HoldShr}
-use Rattle.record_table.proofs.Loop.{tests}
-use Rattle.record_table.proofs.EntryRules.{EntryAtSays, entry-at-shared! }
+use Rattle.mem_entries.proofs.Hold.{HoldShr}
+use Rattle.mem_entries.proofs.Loop.{tests}
+use Rattle.mem_entries.proofs.EntryRules.{EntryAtSays, entry-at-shared! }
 use Rattle.listing.proofs.CallRules.{CountEntrySays, count-entry! }
-use Rattle.record_table.proofs.entry_at.Symbol as entry-at-def
-use Rattle.record_table.proofs.entry_at.Symbol.{name as #record-table·entry-at}
-use Rattle.record_table.proofs.entry_at.Met as entry-at-thm
+use Rattle.mem_entries.proofs.entry_at.Symbol as entry-at-def
+use Rattle.mem_entries.proofs.entry_at.Symbol.{name as #mem-entries·entry-at}
+use Rattle.mem_entries.proofs.entry_at.Met as entry-at-thm
 use Rattle.listing.proofs.text.count_entry.Symbol as count-entry-def
 use Rattle.listing.proofs.text.count_entry.Symbol.{name as #listing·text·count-entry}
 use Rattle.listing.proofs.text.count_entry.Met as count-entry-thm
@@ -112,7 +112,7 @@ module _ {M : Type 1} (𝓤 : URA M) (H : Heap 𝓤) (A : Atoms 𝓤) (W : Given
   Less-wf : WellFounded Less
   Less-wf = InvImage·wf (λ (i : Where). count - i .0) (Nat·lt-wfRel .wf)
 
-  module _ (𝓣 : Tables 𝓤 H) (known-entry-at : Triple 𝓤 (𝓣 .C #record-table·entry-at) (EntryAtSays 𝓤 H A mem run)) (known-count-entry : Triple 𝓤 (𝓣 .C #listing·text·count-entry) (CountEntrySays 𝓤 H A mem run)) where
+  module _ (𝓣 : Tables 𝓤 H) (known-entry-at : Triple 𝓤 (𝓣 .C #mem-entries·entry-at) (EntryAtSays 𝓤 H A mem run)) (known-count-entry : Triple 𝓤 (𝓣 .C #listing·text·count-entry) (CountEntrySays 𝓤 H A mem run)) where
     abbrev C : Calls 𝓤 H
     C = 𝓣 .C
 
@@ -167,7 +167,7 @@ module _ {M : Type 1} (𝓤 : URA M) (H : Heap 𝓤) (A : Atoms 𝓤) (W : Given
         rewrite ! 7 (λ (z : ℕ). ‵ (fat fullShare (tyInt w64) l₄ 0 (vint w64 z))) (sym (count-zero queue entries)) refl $
         looped l₀ l₁ l₂ l₃ l₄ l₅ l₆ l₇))))))))
 
-module _ {M : Type 1} (𝓤 : URA M) (H : Heap 𝓤) (A : Atoms 𝓤) (W : Given 𝓤 H A) (mem : Memory → SProp 𝓤) (run : Routine → Fun 𝓤) (𝓣 : Tables 𝓤 H) (k-entry-at : Triple 𝓤 (𝓣 .C #record-table·entry-at) (EntryAtSays 𝓤 H A mem run)) (k-count-entry : Triple 𝓤 (𝓣 .C #listing·text·count-entry) (CountEntrySays 𝓤 H A mem run)) where
+module _ {M : Type 1} (𝓤 : URA M) (H : Heap 𝓤) (A : Atoms 𝓤) (W : Given 𝓤 H A) (mem : Memory → SProp 𝓤) (run : Routine → Fun 𝓤) (𝓣 : Tables 𝓤 H) (k-entry-at : Triple 𝓤 (𝓣 .C #mem-entries·entry-at) (EntryAtSays 𝓤 H A mem run)) (k-count-entry : Triple 𝓤 (𝓣 .C #listing·text·count-entry) (CountEntrySays 𝓤 H A mem run)) where
   held-of-walks : Walks 𝓤 H A held-of.ended stayed (WpFn 𝓤 H (𝓣 .C) (𝓣 .Λ) code.function) (held-of.clauses 𝓤 H A mem run)
   held-of-walks = walked 𝓤 H A held-of.ended stayed (held-of.clauses 𝓤 H A mem run) (WpFn 𝓤 H (𝓣 .C) (𝓣 .Λ) code.function)
       (λ κs. (slice-vals, (uint-vals w64, (uint-vals w64, tt))))
@@ -186,5 +186,5 @@ held-of-spec 𝓤 H 𝓜 𝓖 𝓡 =
     entered 𝓤 H (tripleOf 𝓤 H (𝓖 .A) held-of.signature (held-of.spec 𝓤 H (𝓖 .A) (𝓜 .mem) (𝓡 .run)))
     (tables 𝓤 H 𝓜 𝓡 code.env .C) (tables 𝓤 H 𝓜 𝓡 code.env .Λ) #listing·passes·held-of code.function (code.unfolded 𝓤 H 𝓜 𝓡)
     (held-of-meets 𝓤 H (𝓖 .A) (givenOf 𝓤 H 𝓜 𝓖) (𝓜 .mem) (𝓡 .run) (tablesOf 𝓤 H 𝓜 (tables 𝓤 H 𝓜 𝓡 code.env))
-    (cited 𝓤 H (EntryAtSays 𝓤 H (𝓖 .A) (𝓜 .mem) (𝓡 .run)) 𝓜 𝓡 code.env #record-table·entry-at entry-at-def.routine code.calls-record-table·entry-at (entry-at-thm.met 𝓤 H 𝓜 𝓖 𝓡))
+    (cited 𝓤 H (EntryAtSays 𝓤 H (𝓖 .A) (𝓜 .mem) (𝓡 .run)) 𝓜 𝓡 code.env #mem-entries·entry-at entry-at-def.routine code.calls-mem-entries·entry-at (entry-at-thm.met 𝓤 H 𝓜 𝓖 𝓡))
     (cited 𝓤 H (CountEntrySays 𝓤 H (𝓖 .A) (𝓜 .mem) (𝓡 .run)) 𝓜 𝓡 code.env #listing·text·count-entry count-entry-def.routine code.calls-listing·text·count-entry (count-entry-thm.met 𝓤 H 𝓜 𝓖 𝓡)))

@@ -42,10 +42,11 @@ use Rattle.listing.proofs.Cursor as Cur
 use Rattle.listing.proofs.Cursor.Laws as Cur′
 use lib.ListN.{length}
 use Rattle.queues.specs.Changes.{wordAt}
-use Rattle.listing.specs.Writing.{written, behind, cursor}
+use Rattle.listing.specs.Writing.{written}
+use Rattle.listing.specs.Internal.{behind, cursor}
 use Rattle.listing.specs.Passes.{countTo, rowLine, linesTo, recordsAt, QueueFits}
 use Rattle.listing.proofs.Counting.{queue-text-is}
-use Rattle.record_table.proofs.Hold.{Hold, HoldShr}
+use Rattle.mem_entries.proofs.Hold.{Hold, HoldShr}
 use Rattle.listing.proofs.Typed.{IsCursor}
 use Rattle.listing.proofs.CallRules.{HeldOfSays, held-of!, RowLineSays, row-line!, RecordLinesSays, record-lines!, PastQueueSays, past-queue! }
 use Rattle.listing.proofs.passes.held_of.Symbol as held-of-def

@@ -48,18 +48,19 @@ use Rattle.listing.specs.declared.Cursor.{Cursor}
 use Rattle.listing.proofs.Cursor as Cur
 use Rattle.listing.proofs.Cursor.Laws as Cur′
 use lib.ListN.{length, getD}
-use Rattle.queues.specs.Changes.{blank}
-use Rattle.listing.specs.Writing.{written, cursor}
+use Rattle.queues.specs.Layout.{blank}
+use Rattle.listing.specs.Writing.{written}
+use Rattle.listing.specs.Internal.{cursor}
 use Rattle.listing.specs.Passes.{linesTo, recordsAt, EntriesFit}
 use Rattle.listing.proofs.Counting.{records-zero, lines-zero, records-next, lines-next, lines-length, entry-inside}
-use Rattle.record_table.proofs.Hold.{Hold, HoldShr}
-use Rattle.record_table.proofs.Loop.{tests}
+use Rattle.mem_entries.proofs.Hold.{Hold, HoldShr}
+use Rattle.mem_entries.proofs.Loop.{tests}
 use Rattle.listing.proofs.Typed.{IsCursor}
-use Rattle.record_table.proofs.EntryRules.{EntryAtSays, entry-at-shared! }
+use Rattle.mem_entries.proofs.EntryRules.{EntryAtSays, entry-at-shared! }
 use Rattle.listing.proofs.CallRules.{EntryLineSays, entry-line! }
-use Rattle.record_table.proofs.entry_at.Symbol as entry-at-def
-use Rattle.record_table.proofs.entry_at.Symbol.{name as #record-table·entry-at}
-use Rattle.record_table.proofs.entry_at.Met as entry-at-thm
+use Rattle.mem_entries.proofs.entry_at.Symbol as entry-at-def
+use Rattle.mem_entries.proofs.entry_at.Symbol.{name as #mem-entries·entry-at}
+use Rattle.mem_entries.proofs.entry_at.Met as entry-at-thm
 use Rattle.listing.proofs.text.entry_line.Symbol as entry-line-def
 use Rattle.listing.proofs.text.entry_line.Symbol.{name as #listing·text·entry-line}
 use Rattle.listing.proofs.text.entry_line.Met as entry-line-thm
@@ -126,7 +127,7 @@ module _ {M : Type 1} (𝓤 : URA M) (H : Heap 𝓤) (A : Atoms 𝓤) (W : Given
   Less-wf : WellFounded Less
   Less-wf = InvImage·wf (λ (i : Where). count - i .0) (Nat·lt-wfRel .wf)
 
-  module _ (𝓣 : Tables 𝓤 H) (known-entry-at : Triple 𝓤 (𝓣 .C #record-table·entry-at) (EntryAtSays 𝓤 H A mem run)) (known-entry-line : Triple 𝓤 (𝓣 .C #listing·text·entry-line) (EntryLineSays 𝓤 H A mem run)) where
+  module _ (𝓣 : Tables 𝓤 H) (known-entry-at : Triple 𝓤 (𝓣 .C #mem-entries·entry-at) (EntryAtSays 𝓤 H A mem run)) (known-entry-line : Triple 𝓤 (𝓣 .C #listing·text·entry-line) (EntryLineSays 𝓤 H A mem run)) where
     abbrev C : Calls 𝓤 H
     C = 𝓣 .C
 
@@ -187,7 +188,7 @@ module _ {M : Type 1} (𝓤 : URA M) (H : Heap 𝓤) (A : Atoms 𝓤) (W : Given
         rewrite ! 13 (λ (z : Cursor). ‵ (fat fullShare (Cur′.mir) l₇ 0 (Cur′.lowered z))) (sym (records-zero (length out) place queue entries payloads)) refl $
         looped l₀ l₁ l₂ l₃ l₄ l₅ l₆ l₇ l₈ l₉ l₁₀ l₁₁ l₁₂)))))))))))))
 
-module _ {M : Type 1} (𝓤 : URA M) (H : Heap 𝓤) (A : Atoms 𝓤) (W : Given 𝓤 H A) (mem : Memory → SProp 𝓤) (run : Routine → Fun 𝓤) (𝓣 : Tables 𝓤 H) (k-entry-at : Triple 𝓤 (𝓣 .C #record-table·entry-at) (EntryAtSays 𝓤 H A mem run)) (k-entry-line : Triple 𝓤 (𝓣 .C #listing·text·entry-line) (EntryLineSays 𝓤 H A mem run)) where
+module _ {M : Type 1} (𝓤 : URA M) (H : Heap 𝓤) (A : Atoms 𝓤) (W : Given 𝓤 H A) (mem : Memory → SProp 𝓤) (run : Routine → Fun 𝓤) (𝓣 : Tables 𝓤 H) (k-entry-at : Triple 𝓤 (𝓣 .C #mem-entries·entry-at) (EntryAtSays 𝓤 H A mem run)) (k-entry-line : Triple 𝓤 (𝓣 .C #listing·text·entry-line) (EntryLineSays 𝓤 H A mem run)) where
   record-lines-walks : Walks 𝓤 H A record-lines.ended stayed (WpFn 𝓤 H (𝓣 .C) (𝓣 .Λ) code.function) (record-lines.clauses 𝓤 H A mem run)
   record-lines-walks = walked 𝓤 H A record-lines.ended stayed (record-lines.clauses 𝓤 H A mem run) (WpFn 𝓤 H (𝓣 .C) (𝓣 .Λ) code.function)
       (λ κs. (slice-vals, (slice-vals, (slice-vals, (uint-vals w64, (uint-vals w64, (uint-vals w64, tt)))))))
@@ -206,5 +207,5 @@ record-lines-spec 𝓤 H 𝓜 𝓖 𝓡 =
     entered 𝓤 H (tripleOf 𝓤 H (𝓖 .A) record-lines.signature (record-lines.spec 𝓤 H (𝓖 .A) (𝓜 .mem) (𝓡 .run)))
     (tables 𝓤 H 𝓜 𝓡 code.env .C) (tables 𝓤 H 𝓜 𝓡 code.env .Λ) #listing·passes·record-lines code.function (code.unfolded 𝓤 H 𝓜 𝓡)
     (record-lines-meets 𝓤 H (𝓖 .A) (givenOf 𝓤 H 𝓜 𝓖) (𝓜 .mem) (𝓡 .run) (tablesOf 𝓤 H 𝓜 (tables 𝓤 H 𝓜 𝓡 code.env))
-    (cited 𝓤 H (EntryAtSays 𝓤 H (𝓖 .A) (𝓜 .mem) (𝓡 .run)) 𝓜 𝓡 code.env #record-table·entry-at entry-at-def.routine code.calls-record-table·entry-at (entry-at-thm.met 𝓤 H 𝓜 𝓖 𝓡))
+    (cited 𝓤 H (EntryAtSays 𝓤 H (𝓖 .A) (𝓜 .mem) (𝓡 .run)) 𝓜 𝓡 code.env #mem-entries·entry-at entry-at-def.routine code.calls-mem-entries·entry-at (entry-at-thm.met 𝓤 H 𝓜 𝓖 𝓡))
     (cited 𝓤 H (EntryLineSays 𝓤 H (𝓖 .A) (𝓜 .mem) (𝓡 .run)) 𝓜 𝓡 code.env #listing·text·entry-line entry-line-def.routine code.calls-listing·text·entry-line (entry-line-thm.met 𝓤 H 𝓜 𝓖 𝓡)))

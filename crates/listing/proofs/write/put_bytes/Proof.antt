@@ -4,7 +4,7 @@ use Prim.Native.Nat.{_≤_, _-_}
 use native.Mathlib.Omega.{arith}
 use borrow.Author.Needs.{needs}
 use lib.ListN.{length, take}
-use Rattle.listing.specs.Writing.{Wrote}
+use Rattle.listing.specs.Internal.{Wrote}
 use Rattle.listing.proofs.Writes.{wrote-none, wrote-length, bytes-turn, bytes-end}
 use Rattle.listing.proofs.write.put_bytes.Statement.{statement}
 use Rattle.listing.proofs.write.put_bytes.Tie as tie

@@ -1,7 +1,0 @@
-// The calls over lent memory at their edges: commands on standard input, as the crate `commands` reads them. Each case prints what came, and behind the bar
-// what should come by document 01.
-fn main() {
-    let mut list = [0u8; 65536];
-    let n = io::read_full(0, &mut list);
-    commands::run(&list[0..n]);
-}

@@ -1,0 +1,6 @@
+pub mod LogLeft
+pub mod Six
+pub mod Readers
+pub mod Bound
+pub mod Lost
+pub mod Asked

@@ -1,0 +1,102 @@
+-- Corruption answers that replay counts: none of a log that nobody changed, one of a log with one hit frame; and where a writer resumes.
+-- Assumes nothing.
+use mathlib.Core.Path.{_≡_, refl, sym, ap, subst, _∙_}
+use mathlib.Core.Logic.{_⊎_}
+use mathlib.Core.List.{List, [], _∷_, _++_, map}
+use Prim.Native.Nat.{ℕ, _+_, _≤_}
+use lib.ListN.{length}
+use Rattle.frame.specs.Block.{padding}
+use Rattle.recordlog.specs.Read.{resume}
+use Rattle.recordlog.specs.Claims.{Each}
+use Rattle.record.specs.Record.{Record}
+use Rattle.queues.specs.Queues.{Capacities}
+use Rattle.queues.specs.Layout.{Memory, meaning, capacities}
+use Rattle.queues.proofs.Both.{never}
+use Rattle.calls.specs.State.{State}
+use Rattle.calls.specs.Reading.{gaveRecord, gaveEnd, readings, lostIn}
+use Rattle.calls.specs.Replay.{Outcome, refused, left, replayedBy, replayOf}
+use Rattle.calls.specs.Machine.{Listed, Fed, machine, recordsOf, NoneLonger}
+use Rattle.calls.specs.Run.{StatesRun as StateRun}
+use Rattle.calls.proofs.Follows.{encodings}
+use Rattle.calls.proofs.Steps.{follows}
+use Rattle.calls.proofs.Runs.{same-records, states-round-trip, states-records-read, resumes-behind}
+use Rattle.calls.proofs.OneHit.{states-one-hit-frame}
+use Rattle.read_step.specs.declared.ReplayAnswer.{ReplayAnswer}
+use Rattle.read_step.specs.declared.ReplayAnswer.the-variants.{Replayed as replayed}
+use Rattle.contracts.specs.Contracts.{Lent, stateOf, ReplayKept, replayAnswerBy, replayAnswer}
+use Rattle.contracts.specs.Run.{Run}
+use Rattle.contracts.proofs.Runs.{run-means}
+use Rattle.contracts.proofs.Readings.{reads-all}
+use Rattle.contracts.proofs.Demands.{answers}
+use Rattle.claims.specs.Claims.{NothingLost, RoundTripNothingLost, CountsOne, OneHitCounted}
+
+-- ---- a log that nobody changed
+
+-- the calls' scratch held each record that they wrote
+none-longer : (limit : ℕ) (ls : List Listed) → Each (λ (xs : List ℕ). length xs ≤ limit) (encodings ls) → NoneLonger limit ls
+none-longer limit [] w = tt
+none-longer limit (l ∷ ls) w = (w .0, none-longer limit ls (w .1))
+
+records-lose : (rs : List Record) → lostIn (map gaveRecord rs ++ (gaveEnd ∷ [])) ≡ 0
+unfolding lostIn
+records-lose [] = refl
+records-lose (r ∷ rs) = records-lose rs
+
+none-lost : (h : List Fed) (s : State) → StateRun h s → lostIn (readings (s .log) (s .scratch)) ≡ 0
+none-lost h s r =
+    ap lostIn (states-records-read h s r (s .scratch)
+    (subst (NoneLonger (s .scratch)) (sym (same-records r)) (none-longer (s .scratch) (follows r .list) (follows r .stands .in-scratch))))
+    ∙ records-lose (recordsOf (machine h .records))
+
+module _ (h : List Fed) (l : Lent) (r : Run h l) (scratch scratch′ : List ℕ) (m m′ : Memory) (a : ReplayAnswer)
+    (e : length scratch ≡ length (l .scratch)) (f : capacities m ≡ capacities (l .memory)) (w : ReplayKept (l .log) scratch m a scratch′ m′) where
+  given-back : replayOf (l .log) (capacities m) (length scratch) ≡ left (meaning (l .memory))
+  unfolding stateOf
+  given-back =
+      ap (replayOf (l .log) (capacities m)) e ∙ ap (λ (c : Capacities). replayOf (l .log) c (length (l .scratch))) f ∙ states-round-trip h (stateOf l) (run-means h l r)
+
+  -- in the scratch that was lent to replay
+  lost-is : lostIn (readings (l .log) (length scratch)) ≡ 0
+  unfolding stateOf
+  lost-is = ap (λ (n : ℕ). lostIn (readings (l .log) n)) e ∙ none-lost h (stateOf l) (run-means h l r)
+
+  resumed-is : (resume (l .log) (length scratch) ≡ l .place) ⊎ (resume (l .log) (length scratch) ≡ l .place + padding (l .place))
+  unfolding stateOf
+  resumed-is =
+      subst (λ (n : ℕ). (resume (l .log) n ≡ l .place) ⊎ (resume (l .log) n ≡ l .place + padding (l .place))) (sym e) (resumes-behind h (stateOf l) (run-means h l r))
+
+  nothing-lost : NothingLost a (l .place)
+  unfolding replayedBy replayAnswer replayAnswerBy
+  nothing-lost =
+      record {
+        resumed = resume (l .log) (length scratch);
+        answer =
+            answers (l .log) scratch scratch′ m m′ a w (left (meaning (l .memory))) given-back ∙ ap (λ (n : ℕ). replayed n (resume (l .log) (length scratch))) lost-is;
+        resumes = resumed-is;
+      }
+
+pub round-trip-nothing-lost : RoundTripNothingLost
+round-trip-nothing-lost h l r scratch scratch′ m m′ a e f w = nothing-lost h l r scratch scratch′ m m′ a e f w
+
+-- ---- one hit frame
+
+-- what a replay that was not refused counts
+told-lost : (o : Outcome) (lost lost′ p p′ : ℕ) → replayed lost p ≡ replayAnswer (replayedBy o lost′ p′) → lost ≡ lost′
+unfolding replayedBy replayAnswer replayAnswerBy
+told-lost (refused n) lost lost′ p p′ e = never (cc)
+told-lost (left qs) lost lost′ p p′ e = cc
+
+counts-one : (hit : List ℕ) (limit : ℕ) → lostIn (readings hit limit) ≡ 1 → CountsOne hit limit
+counts-one hit limit e =
+    record {
+      reading = λ scratch gs n rs. ap lostIn (reads-all hit scratch gs rs) ∙ ap (λ (i : ℕ). lostIn (readings hit i)) n ∙ e;
+      replay = λ scratch scratch′ m m′ lost resumed n w.
+          told-lost (replayOf hit (capacities m) (length scratch)) lost (lostIn (readings hit (length scratch))) resumed (resume hit (length scratch))
+          (answers hit scratch scratch′ m m′ (replayed lost resumed) w (replayOf hit (capacities m) (length scratch)) refl)
+          ∙ ap (λ (i : ℕ). lostIn (readings hit i)) n ∙ e;
+    }
+
+pub one-hit-counted : OneHitCounted
+unfolding stateOf
+one-hit-counted h l r before after owner earlier later f hit limit e hf hh hl =
+    counts-one hit limit (states-one-hit-frame h (stateOf l) (run-means h l r) before after owner earlier later f hit limit e hf hh hl .lost-one)

@@ -1,0 +1,3 @@
+pub mod ReadsOn
+pub mod Asks
+pub mod Claims

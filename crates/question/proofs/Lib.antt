@@ -1,0 +1,5 @@
+pub mod QuestionRules
+pub mod QuestionsKept
+pub mod AskRules
+pub mod PartRule
+pub mod RangeFound

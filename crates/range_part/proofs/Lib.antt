@@ -1,2 +1,0 @@
-pub mod LentAnswer
-pub mod PartRules

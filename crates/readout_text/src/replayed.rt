@@ -1,0 +1,43 @@
+// Replay of a log, and the listing of the queues that it leaves.
+ghost use mathlib.Core.Path.{_≡_};
+ghost use mathlib.Core.Bool.{false};
+ghost use lib.ListN.{length};
+ghost use Rattle.slices.specs.Bytes.{zeros};
+ghost use Rattle.calls.specs.Refusals.{logRefused};
+ghost use Rattle.readout_text.specs.Kept.{CardKept};
+use crate::parts::close_card;
+use crate::parts::numbers_of;
+use listing::Listed;
+use listing::list;
+use mem_entries::blank;
+use replay::replay;
+
+// The text for a log of 1 to 4,096 blocks, in a buffer of zeros.
+pub fn list_replayed(
+    input: &[u8],
+    scratch: &mut [u8],
+    names: &mut [u8],
+    payloads: &mut [u8],
+    table: &mut [u64],
+    out: &mut [u8],
+) -> Listed
+    requires { ⌜ (logRefused (now input) ≡ false) × (now out ≡ zeros (length (now out))) ⌝ }
+    ensures { λ r. ⌜ CardKept
+        (now (input .entry)) (now (scratch .entry)) (now (names .entry)) (now (payloads .entry)) (now (table .entry)) (now (out .entry))
+        r (now (scratch .exit)) (now (names .exit)) (now (payloads .exit)) (now (table .exit)) (now (out .exit)) ⌝ }
+{
+    let mut records = [blank(); 1024];
+    let answer = replay(input, scratch, names, payloads, &mut records, table);
+    let numbers = numbers_of(answer);
+    let listed = list(
+        names,
+        payloads,
+        &records,
+        table,
+        numbers.lost,
+        numbers.resumed,
+        input.len(),
+        out,
+    );
+    close_card(answer, listed, out)
+}

@@ -1,0 +1,65 @@
+-- `test_utf8::print_bytes` is safe and ends.
+-- Assumes nothing.
+use Prim.Native.Nat.{_≤_, _-_}
+use native.Mathlib.Omega.{arith}
+use borrow.Author.Needs.{needs}
+use lib.ListN.{length}
+use Rattle.test_utf8.proofs.print_bytes.Statement.{statement}
+use Rattle.test_utf8.proofs.print_bytes.Tie as tie
+
+abbrev Inv-loop : tie.InvT-loop
+Inv-loop name i₀ i = i ≤ length name
+
+abbrev μ-loop : tie.MeasureT-loop
+μ-loop name i₀ i = length name - i
+
+slice-aggregate-write-all : tie.Need-slice-aggregate-write-all Inv-loop μ-loop
+slice-aggregate-write-all c = search needs
+
+write-all-requires : tie.Need-write-all-requires Inv-loop μ-loop
+write-all-requires c κs = search needs
+
+returns : tie.Need-returns Inv-loop μ-loop
+returns c = search needs
+
+loop-holds : tie.Need-loop-holds Inv-loop μ-loop
+loop-holds c = omega arith
+
+shared-slice-read-print-hex : tie.Need-shared-slice-read-print-hex Inv-loop μ-loop
+shared-slice-read-print-hex c = omega arith
+
+cast-print-hex : tie.Need-cast-print-hex Inv-loop μ-loop
+cast-print-hex c = omega (arith, c .shared-slice-known2 .given (c .before .before .loop .i))
+
+print-hex-requires : tie.Need-print-hex-requires Inv-loop μ-loop
+print-hex-requires c κs = search needs
+
+add-i : tie.Need-add-i Inv-loop μ-loop
+add-i c = omega arith
+
+loop-less : tie.Need-loop-less Inv-loop μ-loop
+loop-less c = omega arith
+
+loop-again : tie.Need-loop-again Inv-loop μ-loop
+loop-again c = omega arith
+
+returns-2 : tie.Need-returns-2 Inv-loop μ-loop
+returns-2 c = search needs
+
+pub print-bytes-spec : {M : Type 1} → statement M
+print-bytes-spec =
+    tie.close
+    (tie.spec
+    Inv-loop
+    μ-loop
+    slice-aggregate-write-all
+    write-all-requires
+    returns
+    loop-holds
+    shared-slice-read-print-hex
+    cast-print-hex
+    print-hex-requires
+    add-i
+    loop-less
+    loop-again
+    returns-2)
