@@ -6,7 +6,7 @@
  * queue; what lies behind them is never touched. A record, a queue, a name or a payload for which there is no room is refused 12. docs/LAYOUT.md gives the layout
  * of both, and says when the memory is arranged (refusal 6): what replay or a call left, lent again unchanged, always is. Queue memory of zeros holds no queues.
  *
- * The numbers: 1 the log is under one block or over 4,096; 2 a name is over 65,535 bytes; 3 a name is not UTF-8; 4 position 2^64-1 is named; 5 over 1,024 payloads, or
+ * The numbers: 1 the log is under one block or over 4,096; 2 a name is over 65,535 bytes; 3 a name is not UTF-8; 4 position 2^64-1 is named; 5 over 128 payloads, or
  * lengths that do not sum to the bytes given; 6 the memory, the reader or the write position is not arranged; 7 the name is held; 8 it is not held; 9 the position is
  * past; 10 a payload would take position 2^64-1; 11 a record is longer than the scratch; 12 the queue memory is full; 13 the log is full; 14 replay meets a position
  * that cannot be taken; 18 a width that does not fit, of the two entries for byte planes alone.
@@ -66,7 +66,7 @@ uint64_t mrecordlog_truncate(uint8_t *log, size_t log_len, size_t *write_positio
                              uint64_t *evicted, uint64_t *bytes_written);
 
 /* Payloads behind the records of a queue: end to end in the run, each as long as its length says. named 0: no position is named, else `position` is.
- * has_last 0: no payload took a position (the empty answer), else 1 and the last position. */
+ * has_last 0: no payload took a position (the empty answer), else 1 and the last position. Over 128 payloads is 5; a log with longer appends is still read. */
 uint64_t mrecordlog_append(uint8_t *log, size_t log_len, size_t *write_position,
                            uint8_t *scratch, size_t scratch_len,
                            uint8_t *names, size_t names_len,

@@ -1,7 +1,7 @@
 //! Cases: call lists, logs, and changes of sound memory, from random numbers or by hand.
 
 use crate::frames;
-use crate::machine::{self, Machine, Room};
+use crate::machine::{self, Machine, Room, PAYLOADS};
 use crate::plain::{Bound, Call, Queues, Record, Type, BLOCK, HEADER, LAST};
 use crate::port::{Memory, ENTRIES, TABLE};
 use crate::random::Random;
@@ -126,7 +126,7 @@ fn append(random: &mut Random, machine: &Machine, name: Vec<u8>, most: usize) ->
         1..=9 => 1,
         10..=17 => random.from_to(2, 6),
         18 => random.from_to(7, 80),
-        _ if random.once_in(3) => *random.pick(&[1_023, 1_024, 1_025, 600]),
+        _ if random.once_in(3) => *random.pick(&[PAYLOADS - 1, PAYLOADS, PAYLOADS, PAYLOADS + 1, 1_024, 1_025]),
         _ => random.from_to(2, 30),
     };
     let mut lens: Vec<u64> = (0..count).map(|_| if random.once_in(3) { 0 } else { random.below(9) as u64 }).collect();
@@ -183,6 +183,18 @@ fn step(random: &mut Random, machine: &Machine, names: &[Vec<u8>], most: usize) 
     }
 }
 
+/// A queue with as many records as are lent, or a few fewer, by appends of as many payloads as one may have.
+fn filled(random: &mut Random, name: &[u8]) -> Vec<Step> {
+    let mut left = ENTRIES / 24 - random.below(4);
+    let mut steps = vec![Step::Call(Call::Create { name: name.to_vec() })];
+    while left > 0 {
+        let count = left.min(PAYLOADS);
+        steps.push(Step::Call(Call::Append { name: name.to_vec(), position: None, run: random.bytes(count), lens: vec![1; count] }));
+        left -= count;
+    }
+    steps
+}
+
 /// A random list on a log of one to eight blocks. The machine runs along, so that sizes and positions lie near the edges.
 pub fn list(random: &mut Random) -> List {
     let blocks = if random.once_in(3) { random.from_to(1, 8) } else { *random.pick(&[1, 1, 1, 2, 2, 3]) };
@@ -208,10 +220,12 @@ pub fn list(random: &mut Random) -> List {
     if random.once_in(40) {
         pool = (0..70u32).map(|k| k.to_string().into_bytes()).collect();
         list.steps = (0..64).map(|k| Step::Call(Call::Create { name: pool[k].clone() })).collect();
-        for call in list.calls() {
-            if machine.refusal(call, &room, true).is_none() {
-                machine.feed(call);
-            }
+    } else if random.once_in(40) {
+        list.steps = filled(random, &pool[0]);
+    }
+    for call in list.calls() {
+        if machine.refusal(call, &room, true).is_none() {
+            machine.feed(call);
         }
     }
     let most = if random.once_in(2) { blocks * BLOCK } else { 2_000 };
@@ -318,10 +332,12 @@ pub fn record(random: &mut Random, queues: &Queues) -> Record {
     let mut items = vec![];
     if kind == Type::Append {
         let mut at = if random.once_in(6) { random.below(12) as u64 } else { position.max(next) };
-        for _ in 0..random.below(5) {
-            let len = if random.once_in(20) { random.below(9_000) } else { random.below(12) };
+        let many = random.once_in(60);
+        let count = if many { *random.pick(&[PAYLOADS, PAYLOADS + 1, 1_024]) } else { random.below(5) };
+        for _ in 0..count {
+            let len = if many { random.below(3) } else if random.once_in(20) { random.below(9_000) } else { random.below(12) };
             items.push((at, random.bytes(len)));
-            at = if random.once_in(30) { random.below(12) as u64 } else { at.saturating_add(1 + random.below(2) as u64) };
+            at = if !many && random.once_in(30) { random.below(12) as u64 } else { at.saturating_add(1 + random.below(2) as u64) };
         }
     }
     Record { kind, position, name, items }

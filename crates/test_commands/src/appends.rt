@@ -57,7 +57,8 @@ fn append_run(
     lens: &mut [u64],
     line: &[u8],
 ) {
-    spread(lens, run.len() as u64, has(line, b"even"));
+    let sum = number(line, b"sum", run.len() as u64);
+    spread(lens, sum, has(line, b"even"));
     let position = at_position(line);
     appended(multi_record_log::append(
         log,

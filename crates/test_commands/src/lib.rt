@@ -6,7 +6,7 @@
 //   lend [log N] [scratch N] [names N] [payload_bytes N] [entries N] [table N]
 //                         how many bytes of each memory are lent from here on, all where none is named; any other command may say it for itself
 //   start                 a zero log, no queues, write position 0
-//   create NAME, delete NAME, truncate NAME through P, append NAME payloads N bytes N [even] [seed N] [at P]
+//   create NAME, delete NAME, truncate NAME through P, append NAME payloads N bytes N [sum N] [even] [seed N] [at P]
 //                         the answer; with the word `same` at the end also whether all that is lent is left as it was
 //   positions NAME, first NAME [after P], ranges NAME from P to P, queues
 //                         questions: the first record of a queue; that of nine ranges; all queues with their records
@@ -20,7 +20,7 @@
 //
 // A run of bytes from a seed x: for each byte x becomes (1,103,515,245 x + 12,345) mod 2^31, and the byte is x / 65,536 mod 256. An append's payloads are
 // such a run, end to end. The first payload has all bytes and the others none; with `even` n payloads of b bytes have b / n each, and the first b mod n one
-// more.
+// more. With `sum` the lengths are those of this many bytes, whatever the run has.
 mod answers;
 mod appends;
 mod bytes;

@@ -8,6 +8,7 @@ use std::fs;
 use std::path::PathBuf;
 
 use host::frames::{crc32, encode, frame_bytes, frames};
+use host::machine::PAYLOADS;
 use host::oracle::{Folder, LogReader, Oracle};
 use host::plain::{payloads, Bound, Corruption, Reader, Reading, Record, Type, BLOCK, HEADER};
 use host::random::Random;
@@ -178,6 +179,7 @@ impl<'a> List<'a> {
         if !self.room(11 + name.len() + 12 * n as usize + b as usize) || RECORDS < held + n as usize {
             return;
         }
+        assert!(n as usize <= PAYLOADS);
         self.seed += 1;
         let seed = self.seed;
         let (data, lens) = (run(b as usize, seed), lens(n, b));
@@ -501,11 +503,14 @@ fn edge_list(sample: &mut Sample, left: usize, turn: usize) {
     list.end();
 }
 
-/// Many payloads in one append.
-fn many(sample: &mut Sample, n: u32, b: u32) {
+/// Many payloads: appends with so many each.
+fn many(sample: &mut Sample, appends: u32, each: u32, b: u32) {
     let mut list = List::new(sample, 3);
     list.create("many");
-    list.append("many", None, n, b);
+    for _ in 0..appends {
+        list.append("many", None, each, b);
+    }
+    let n = appends * each;
     list.queues();
     list.truncate("many", n as u64 / 2);
     list.ranges("many", n as u64 / 2, n - 1);
@@ -744,6 +749,15 @@ fn random_logs(sample: &mut Sample, random: &mut Random) {
     }
 }
 
+/// Appends with as many items as a call may write, and with more: they are read all the same.
+fn made_appends(sample: &mut Sample) {
+    for count in [PAYLOADS, PAYLOADS + 1, RECORDS] {
+        let data: Vec<Vec<u8>> = (0..count).map(|k| run(k % 3, k as u32)).collect();
+        let items: Vec<(u64, &[u8])> = data.iter().enumerate().map(|(k, data)| (k as u64, &data[..])).collect();
+        made(sample, &[full(&record(Type::Append, 0, "a", &items))], true);
+    }
+}
+
 fn main() {
     let mut arguments = std::env::args().skip(1);
     let default = PathBuf::from(env!("CARGO_MANIFEST_DIR")).join("../crates/test_rust_answers");
@@ -757,8 +771,8 @@ fn main() {
     for (turn, left) in [0, 1, 5, 6, 7, 8, 9, 17, 18, 19, 20, 25, 26, 27].into_iter().enumerate() {
         edge_list(&mut sample, left, turn);
     }
-    many(&mut sample, 1024, 3000);
-    many(&mut sample, 300, 299);
+    many(&mut sample, (RECORDS / PAYLOADS) as u32, PAYLOADS as u32, 375);
+    many(&mut sample, 1, PAYLOADS as u32, 3000);
     many_queues(&mut sample);
     for lost in [&[2][..], &[3], &[2, 3], &[0, 3], &[1, 2, 3], &[4], &[0, 1, 2, 3]] {
         refused_list(&mut sample, lost);
@@ -768,6 +782,7 @@ fn main() {
     made_records(&mut sample);
     made_replays(&mut sample);
     random_logs(&mut sample, &mut random);
+    made_appends(&mut sample);
     fs::write(folder.join("stdin"), &sample.stdin).unwrap();
     fs::write(folder.join("stdout"), &sample.stdout).unwrap();
     let Sample { stdin, stdout, lists, calls, questions, replays, refused, reads, corruptions } = sample;
