@@ -22,9 +22,10 @@ use Rattle.queues.proofs.Rising.{risen, Fine, arranged-fine, fine-next}
 use Rattle.listing.specs.Digits.{digit, hexRun, hex, decimal}
 use Rattle.listing.specs.Writing.{written}
 use Rattle.listing.specs.Internal.{behind}
-use Rattle.listing.specs.Listing.{queuesWord, queueWord, startWord, nextWord, heldWord, recordWord, lostWord, fillWord, space, point, lineFeed, numbered, numberLine, headLine, queueLine, recordLine, recordLines, queueLines, wholeBytes, halvesUp, fillTenths, fillLine, endLines, listing}
-use Rattle.listing.specs.Claims.{LogFits, HalvesUp, WrittenFits, WrittenShort, ListingShort, MemoryShort}
+use Rattle.listing.specs.Listing.{queuesWord, queueWord, startWord, nextWord, heldWord, recordWord, lostWord, fillWord, space, point, lineFeed, numbered, numberLine, headLine, queueLine, recordLine, recordLines, queueLines, wholeBytes, halfEven, fillTenths, fillLine, endLines, listing}
+use Rattle.listing.specs.Claims.{LogFits, WrittenFits, WrittenShort, ListingShort, MemoryShort}
 use Rattle.listing.proofs.Writes.{by-test, written-append, written-out, behind-in}
+use Rattle.listing.proofs.Rounding.{half-even-most}
 use Rattle.listing.proofs.Notation.{decimal-one, decimal-more}
 
 pub written-fits : WrittenFits
@@ -41,16 +42,6 @@ written-short s xs h =
     ∙ written-append s 0 (take n xs) (drop n xs)
     ∙ ap₂ (λ (t : List ℕ) (q : ℕ). written t q (drop n xs)) whole place
     ∙ written-out (take n xs) (0 + length (take n xs)) (drop n xs) (omega arith)
-
-pub halves-up : HalvesUp
-unfolding halvesUp
-halves-up a b h =
-    let x : ℕ = 2 * a + b in
-    let d : ℕ = 2 * b in
-    let whole : d * (x / d) + x % d ≡ x = div-add-mod x d in
-    let rest : x % d < d = mod-lt x (omega arith) in
-    let one : d * (x / d + 1) ≡ d * (x / d) + d * 1 = mul-add d (x / d) 1 in
-    (omega arith, omega arith)
 
 -- ---- how long a text gets
 
@@ -146,12 +137,12 @@ queues-short (q ∷ qs) e h =
     )
 
 fill-short : (resumed n : ℕ) → LogFits resumed n → length (fillLine (fillTenths resumed n)) ≤ 47
-unfolding fillLine fillTenths wholeBytes halvesUp
+unfolding fillLine fillTenths wholeBytes
 fill-short resumed n fits =
     let w : ℕ = n / 32768 * 32768 in
-    let x : ℕ = 2 * (1000 * resumed) + w in
-    let t : ℕ = x / (2 * w) in
-    let small : t < 2 ^ 64 = omega (arith, div-le-self x (2 * w), fits .few-blocks, fits .inside) in
+    let a : ℕ = 1000 * resumed in
+    let t : ℕ = halfEven a w in
+    let small : t < 2 ^ 64 = omega (arith, half-even-most a w (omega (arith, fits .a-block)), div-le-self a w, fits .few-blocks, fits .inside) in
     omega
     (arith, length-append (numbered fillWord (t / 10)) (numberLine point (t % 10)), numbered-short fillWord (t / 10) (omega arith), line-short point (t % 10) (omega arith))
 

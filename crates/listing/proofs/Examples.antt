@@ -3,11 +3,11 @@
 use mathlib.Core.Path.{refl}
 use Rattle.queues.specs.Queues.{next, nextFrom}
 use Rattle.listing.specs.Digits.{digit, hexRun, hex, decimalIn, decimal}
-use Rattle.listing.specs.Listing.{numbered, numberLine, headLine, queueLine, recordLine, recordLines, queueLines, wholeBytes, halvesUp, fillTenths, fillLine, endLines, listing, refusal}
+use Rattle.listing.specs.Listing.{numbered, numberLine, headLine, queueLine, recordLine, recordLines, queueLines, wholeBytes, halfEven, fillTenths, fillLine, endLines, listing, refusal}
 use Rattle.listing.specs.Claims.{Example, LastNumber, Fills, RefusalText}
 
 pub example : Example
-unfolding next nextFrom digit hexRun hex decimalIn decimal numbered numberLine headLine queueLine recordLine recordLines queueLines wholeBytes halvesUp fillTenths fillLine endLines listing
+unfolding next nextFrom digit hexRun hex decimalIn decimal numbered numberLine headLine queueLine recordLine recordLines queueLines wholeBytes halfEven fillTenths fillLine endLines listing
 example = refl
 
 pub last-number : LastNumber
@@ -15,8 +15,8 @@ unfolding digit decimalIn decimal
 last-number = (refl, refl)
 
 pub fills : Fills
-unfolding wholeBytes halvesUp fillTenths
-fills = (refl, (refl, refl))
+unfolding wholeBytes halfEven fillTenths
+fills = (refl, refl)
 
 pub refusal-text : RefusalText
 unfolding digit decimalIn decimal numbered numberLine refusal

@@ -8,5 +8,6 @@ pub mod Typed
 pub mod CallRules
 pub mod Examples
 pub mod Readback
+pub mod Rounding
 pub mod Bounds
 pub mod FacadeRules

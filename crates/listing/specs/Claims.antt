@@ -3,8 +3,8 @@
 -- Assumes nothing.
 use mathlib.Core.Path.{_≡_}
 use mathlib.Core.Bool.{true, cond}
-use mathlib.Core.List.{List, [], _∷_, _++_}
-use Prim.Native.Nat.{ℕ, _+_, _*_, _-_, _^_, _≤_, _<_, _/_}
+use mathlib.Core.List.{List, [], _∷_, _++_, map}
+use Prim.Native.Nat.{ℕ, _+_, _*_, _-_, _^_, _≤_, _<_, _/_, _%_}
 use lib.Dec.{ltb}
 use lib.ListN.{length, take}
 use Rattle.slices.specs.Bytes.{Bytes}
@@ -14,7 +14,7 @@ use Rattle.queues.specs.Queues.{Queue, queue, nameBytes, recordCount, payloadBy
 use Rattle.queues.specs.Layout.{Memory, meaning, arranged}
 use Rattle.listing.specs.Digits.{hexRun, decimal}
 use Rattle.listing.specs.Writing.{written}
-use Rattle.listing.specs.Listing.{halvesUp, fillTenths, listing, refusal}
+use Rattle.listing.specs.Listing.{wholeBytes, halfEven, fillTenths, listing, refusal}
 
 -- ---- 01's example
 
@@ -56,9 +56,9 @@ Example = listing (exampleQueue ∷ []) 0 65 32768 ≡ exampleLine1 ++ (exampleL
 abbrev pub LastNumber : Type 0
 LastNumber = (decimal 0xFFFFFFFFFFFFFFFF ≡ 49 ∷ 56 ∷ 52 ∷ 52 ∷ 54 ∷ 55 ∷ 52 ∷ 52 ∷ 48 ∷ 55 ∷ 51 ∷ 55 ∷ 48 ∷ 57 ∷ 53 ∷ 53 ∷ 49 ∷ 54 ∷ 49 ∷ 53 ∷ []) × (decimal (10 ^ 20) ≡ 49 ∷ 48 ∷ 48 ∷ 48 ∷ 48 ∷ 48 ∷ 48 ∷ 48 ∷ 48 ∷ 48 ∷ 48 ∷ 48 ∷ 48 ∷ 48 ∷ 48 ∷ 48 ∷ 48 ∷ 48 ∷ 48 ∷ 48 ∷ 48 ∷ [])
 
--- a log that is full, one whose fill is 6.25 percent, and one with half a block used and a tail
+-- of one block: nothing used, the exact halves of a tenth (6.25, 18.75, 31.25 .. 93.75 percent), all; and half a block used of one with a tail
 abbrev pub Fills : Type 0
-Fills = (fillTenths 32768 32768 ≡ 1000) × ((fillTenths 2048 32768 ≡ 63) × (fillTenths 16384 65535 ≡ 500))
+Fills = (map (λ (p : ℕ). fillTenths p 32768) (0 ∷ 2048 ∷ 6144 ∷ 10240 ∷ 14336 ∷ 18432 ∷ 22528 ∷ 26624 ∷ 30720 ∷ 32768 ∷ []) ≡ 0 ∷ 62 ∷ 188 ∷ 312 ∷ 438 ∷ 562 ∷ 688 ∷ 812 ∷ 938 ∷ 1000 ∷ []) × (fillTenths 16384 65535 ≡ 500)
 
 -- "refused 14"
 abbrev pub RefusalText : Type 0
@@ -88,9 +88,25 @@ HexReads = (bs : List ℕ) → Bytes bs → bytesOf (hexRun bs) ≡ bs
 
 -- ---- the rounding
 
--- the result, r, is the one number with r - 1/2 ≤ a / b < r + 1/2
-abbrev pub HalvesUp : Type 0
-HalvesUp = (a b : ℕ) → 0 < b → (2 * b * halvesUp a b ≤ 2 * a + b) × (2 * a + b < 2 * b * (halvesUp a b + 1))
+-- 02, Ticket 2: t is a / b to "the nearest", "and at an exact half the even" one, over whole numbers
+pub record Rounded (a b t : ℕ) : Type 0 where
+  -- t is at most 1/2 above a / b, and at most 1/2 below
+  pub not-above : 2 * b * t ≤ 2 * a + b
+  pub not-below : 2 * a ≤ 2 * b * t + b
+  -- where it is exactly 1/2 above, or exactly 1/2 below, it is even
+  pub even-above : 2 * b * t ≡ 2 * a + b → t % 2 ≡ 0
+  pub even-below : 2 * a ≡ 2 * b * t + b → t % 2 ≡ 0
+
+abbrev pub HalfEven : Type 0
+HalfEven = (a b : ℕ) → 0 < b → Rounded a b (halfEven a b)
+
+-- no other number has these properties
+abbrev pub HalfEvenOnly : Type 0
+HalfEvenOnly = (a b t : ℕ) → 0 < b → Rounded a b t → t ≡ halfEven a b
+
+-- the fill of a log with a block, in tenths of a percent of its whole blocks
+abbrev pub FillRounded : Type 0
+FillRounded = (resumed n : ℕ) → 32768 ≤ n → Rounded (1000 * resumed) (wholeBytes n) (fillTenths resumed n)
 
 -- ---- what a buffer is left with
 

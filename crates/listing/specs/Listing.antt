@@ -1,9 +1,11 @@
--- Definition (01, "Readout").
+-- Definition (01, "Readout"; 02, Ticket 2).
 -- 01, "Readout": the text that is listed for the queues, the number of corruption answers and the resume point, line by line.
 -- Characters are their ASCII codes; each line ends with a line feed, 10.
 -- Assumes nothing.
+use mathlib.Core.Bool.{cond}
 use mathlib.Core.List.{List, [], _∷_, _++_}
 use Prim.Native.Nat.{ℕ, _+_, _*_, _/_, _%_}
+use lib.Dec.{ltb}
 use lib.ListN.{length}
 use Rattle.record.specs.Record.{Item}
 use Rattle.queues.specs.Queues.{Queue, next}
@@ -92,13 +94,14 @@ queueLines (q ∷ qs) = queueLine q ++ (recordLines (q .records) ++ queueLines q
 unfoldable pub wholeBytes : ℕ → ℕ
 wholeBytes n = n / 32768 * 32768
 
--- a / b to the nearest whole number, "halves up"
-unfoldable pub halvesUp : ℕ → ℕ → ℕ
-halvesUp a b = (2 * a + b) / (2 * b)
+-- a / b to the nearest whole number: "at an exact half the even" one (02, Ticket 2, over 01's "halves up")
+unfoldable pub halfEven : ℕ → ℕ → ℕ
+halfEven a b = cond (ltb (2 * (a % b)) b) (a / b) (cond (ltb b (2 * (a % b))) (a / b + 1) (a / b + a / b % 2))
 
--- "the bytes before the resume point as a percentage of the log, one decimal": in tenths, of the whole blocks
+-- "the bytes before the resume point as a percentage of the log, one decimal": in tenths, of the whole blocks; "the nearest tenth, and at an exact half
+-- the even tenth"
 unfoldable pub fillTenths : ℕ → ℕ → ℕ
-fillTenths resumed n = halvesUp (1000 * resumed) (wholeBytes n)
+fillTenths resumed n = halfEven (1000 * resumed) (wholeBytes n)
 
 unfoldable pub fillLine : ℕ → List ℕ
 fillLine t = numbered fillWord (t / 10) ++ numberLine point (t % 10)

@@ -3,7 +3,7 @@ ghost use mathlib.Core.Path.{_≡_};
 ghost use Prim.Native.Nat.{_+_, _<_, _^_, _*_};
 ghost use Rattle.listing.specs.Writing.{listed};
 ghost use Rattle.listing.specs.Internal.{Wrote};
-ghost use Rattle.listing.specs.Listing.{numbered, numberLine, headLine, recordLine, fillLine, fillTenths, halvesUp};
+ghost use Rattle.listing.specs.Listing.{numbered, numberLine, headLine, recordLine, fillLine, fillTenths, halfEven};
 ghost use Rattle.listing.specs.Claims.{LogFits};
 ghost use Rattle.record.specs.Record.{item};
 use crate::Listed;
@@ -49,12 +49,20 @@ pub fn put_record(out: &mut [u8], at: usize, position: u64, payload: &[u8]) -> u
     put_byte(out, p, b'\n')
 }
 
-// a / b to the nearest whole number, halves up.
-fn halves_up(a: u64, b: u64) -> u64
+// a / b to the nearest whole number, at an exact half the even one.
+fn half_even(a: u64, b: u64) -> u64
     requires { ⌜ (0 < b) × (2 * a + 2 * b < 2 ^ 64) ⌝ }
-    ensures { λ r. ⌜ r ≡ halvesUp a b ⌝ }
+    ensures { λ r. ⌜ r ≡ halfEven a b ⌝ }
 {
-    (2 * a + b) / (2 * b)
+    let whole = a / b;
+    let twice = 2 * (a % b);
+    if twice < b {
+        return whole;
+    }
+    if b < twice {
+        return whole + 1;
+    }
+    whole + whole % 2
 }
 
 // The bytes before the resume point, in tenths of a percent of the log's whole blocks.
@@ -63,7 +71,7 @@ pub fn fill_tenths(resumed: usize, log_bytes: usize) -> u64
     ensures { λ r. ⌜ r ≡ fillTenths resumed «log_bytes» ⌝ }
 {
     let whole = log_bytes / Reader::BLOCK_NUM_BYTES * Reader::BLOCK_NUM_BYTES;
-    halves_up(1000 * (resumed as u64), whole as u64)
+    half_even(1000 * (resumed as u64), whole as u64)
 }
 
 pub fn put_fill(out: &mut [u8], at: usize, tenths: u64) -> usize

@@ -43,7 +43,7 @@ fn list_next() -> bool {
 }
 
 fn main() {
-    let mut left: usize = 100;
+    let mut left: usize = 1000;
     while 0 < left {
         if !list_next() {
             return;

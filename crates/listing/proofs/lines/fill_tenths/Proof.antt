@@ -8,15 +8,15 @@ use Rattle.listing.proofs.lines.fill_tenths.Tie as tie
 mul-whole : tie.Need-mul-whole
 mul-whole c = search needs
 
-mul-halves-up : tie.Need-mul-halves-up
-mul-halves-up c = search needs
+mul-half-even : tie.Need-mul-half-even
+mul-half-even c = search needs
 
-halves-up-requires : tie.Need-halves-up-requires
-halves-up-requires c κs = search needs
+half-even-requires : tie.Need-half-even-requires
+half-even-requires c κs = search needs
 
 returns : tie.Need-returns
 unfolding fillTenths wholeBytes
-returns c = c .halves-up .ensures
+returns c = c .half-even .ensures
 
 pub fill-tenths-spec : {M : Type 1} → statement M
-fill-tenths-spec = tie.close (tie.spec mul-whole mul-halves-up halves-up-requires returns)
+fill-tenths-spec = tie.close (tie.spec mul-whole mul-half-even half-even-requires returns)
