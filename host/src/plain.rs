@@ -101,13 +101,33 @@ pub fn payloads<'a>(run: &'a [u8], lens: &[u64]) -> Vec<&'a [u8]> {
         .collect()
 }
 
-/// What a call answers where it is not refused.
+/// The bytes written, in two counts: frames, headers and data; and the zeros before them (02, "Padding counted by itself").
+#[derive(Clone, Copy, Debug, Default, PartialEq, Eq)]
+pub struct Counts {
+    pub frame: u64,
+    pub padding: u64,
+}
+
+/// What a call answers where it is not refused. The bytes written are two counts, or their sum, which is what the Rust answers.
 #[derive(Clone, Copy, Debug, PartialEq, Eq)]
-pub enum Done {
-    Created { bytes: u64 },
-    Deleted { bytes: u64 },
-    Truncated { evicted: u64, bytes: u64 },
-    Appended { last: Option<u64>, bytes: u64 },
+pub enum Done<Bytes = Counts> {
+    Created { bytes: Bytes },
+    Deleted { bytes: Bytes },
+    Truncated { evicted: u64, bytes: Bytes },
+    Appended { last: Option<u64>, bytes: Bytes },
+}
+
+impl Done {
+    /// "The sum is the bytes written."
+    pub fn summed(self) -> Done<u64> {
+        let sum = |counts: Counts| counts.frame + counts.padding;
+        match self {
+            Done::Created { bytes } => Done::Created { bytes: sum(bytes) },
+            Done::Deleted { bytes } => Done::Deleted { bytes: sum(bytes) },
+            Done::Truncated { evicted, bytes } => Done::Truncated { evicted, bytes: sum(bytes) },
+            Done::Appended { last, bytes } => Done::Appended { last, bytes: sum(bytes) },
+        }
+    }
 }
 
 /// A bound of a range of positions.

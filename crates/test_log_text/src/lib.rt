@@ -42,11 +42,38 @@ pub fn put(log: &mut [u8], place: usize, data: &[u8], n: usize) -> usize {
     }
     let table = [0u32; 0];
     let answer = recordlog::write_record(&table, log, place, &data[0..n]);
-    let RecordWrite::Written { bytes: _, next } = answer else {
+    let RecordWrite::Written {
+        frame_bytes: _,
+        padding_bytes: _,
+        next,
+    } = answer
+    else {
         text(b" 13");
         return place;
     };
     next
+}
+
+// The same, with the two counts printed: frame bytes + padding bytes.
+pub fn put_counted(log: &mut [u8], place: usize, data: &[u8], n: usize) {
+    if data.len() < n {
+        return;
+    }
+    let table = [0u32; 0];
+    let answer = recordlog::write_record(&table, log, place, &data[0..n]);
+    let RecordWrite::Written {
+        frame_bytes,
+        padding_bytes,
+        next: _,
+    } = answer
+    else {
+        text(b" 13");
+        return;
+    };
+    text(b" ");
+    number(frame_bytes);
+    text(b"+");
+    number(padding_bytes);
 }
 
 fn show_record(scratch: &[u8], data: &[u8], len: usize) {
