@@ -118,14 +118,20 @@ pub enum Done<Bytes = Counts> {
 }
 
 impl Done {
+    pub fn counts(self) -> Counts {
+        match self {
+            Done::Created { bytes } | Done::Deleted { bytes } | Done::Truncated { bytes, .. } | Done::Appended { bytes, .. } => bytes,
+        }
+    }
+
     /// "The sum is the bytes written."
     pub fn summed(self) -> Done<u64> {
-        let sum = |counts: Counts| counts.frame + counts.padding;
+        let bytes = self.counts().frame + self.counts().padding;
         match self {
-            Done::Created { bytes } => Done::Created { bytes: sum(bytes) },
-            Done::Deleted { bytes } => Done::Deleted { bytes: sum(bytes) },
-            Done::Truncated { evicted, bytes } => Done::Truncated { evicted, bytes: sum(bytes) },
-            Done::Appended { last, bytes } => Done::Appended { last, bytes: sum(bytes) },
+            Done::Created { .. } => Done::Created { bytes },
+            Done::Deleted { .. } => Done::Deleted { bytes },
+            Done::Truncated { evicted, .. } => Done::Truncated { evicted, bytes },
+            Done::Appended { last, .. } => Done::Appended { last, bytes },
         }
     }
 }

@@ -163,8 +163,8 @@ fn tail(data: &[u8]) {
     tail_in(&mut log, data);
 }
 
-// Records of 12 bytes with 8, 7, 6, 1 and 0 bytes left in the block, an empty one with 7 and 6, and 32,781 bytes with 7 left: First of 0, Middle of 32,761, Last of
-// 20. The last has no room.
+// Records of 12 bytes with 8, 7, 6, 1 and 0 bytes left in the block; empty ones with 7 and 6; 32,781 bytes with 7 left: First of 0, Middle of 32,761, Last
+// of 20. The last record has no room.
 fn two_counts(log: &mut [u8], data: &[u8]) {
     clear(log);
     text(b"frame bytes + padding bytes:");

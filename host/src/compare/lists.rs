@@ -68,6 +68,9 @@ impl Run<'_> {
         }
         self.put(call);
         let done = self.machine.feed(call);
+        if done.counts().padding > 0 {
+            tally.count("calls that pad");
+        }
         same("answer, each count", &answer, &Ok(done))?;
         same("answer of the Rust, the counts' sum", &self.rust.call(call).map_err(|refusal| refusal.to_string()), &answer.map(Done::summed))?;
         zero("scratch", &self.port.scratch)?;
