@@ -34,6 +34,9 @@
 #define MRECORDLOG_REPLAY_POSITION 14
 #define MRECORDLOG_WIDTH_WRONG 18
 
+/* A call that writes, and is not refused, gives the bytes that it wrote to the log in two counts: frame_bytes, the headers and data of its record's frames, and
+ * padding_bytes, the zeros that filled the block before the first of them, at most 6. Their sum is how far the write position moved. */
+
 /* An empty queue with start 0. */
 uint64_t mrecordlog_create(uint8_t *log, size_t log_len, size_t *write_position,
                            uint8_t *scratch, size_t scratch_len,
@@ -42,7 +45,7 @@ uint64_t mrecordlog_create(uint8_t *log, size_t log_len, size_t *write_position,
                            uint8_t *entries, size_t entries_len,
                            uint8_t *table, size_t table_len,
                            const uint8_t *name, size_t name_len,
-                           uint64_t *bytes_written);
+                           uint64_t *frame_bytes, uint64_t *padding_bytes);
 
 /* A queue and its records taken away. */
 uint64_t mrecordlog_delete(uint8_t *log, size_t log_len, size_t *write_position,
@@ -52,7 +55,7 @@ uint64_t mrecordlog_delete(uint8_t *log, size_t log_len, size_t *write_position,
                            uint8_t *entries, size_t entries_len,
                            uint8_t *table, size_t table_len,
                            const uint8_t *name, size_t name_len,
-                           uint64_t *bytes_written);
+                           uint64_t *frame_bytes, uint64_t *padding_bytes);
 
 /* The records of a queue up to and with a position evicted. */
 uint64_t mrecordlog_truncate(uint8_t *log, size_t log_len, size_t *write_position,
@@ -63,10 +66,11 @@ uint64_t mrecordlog_truncate(uint8_t *log, size_t log_len, size_t *write_positio
                              uint8_t *table, size_t table_len,
                              const uint8_t *name, size_t name_len,
                              uint64_t through,
-                             uint64_t *evicted, uint64_t *bytes_written);
+                             uint64_t *evicted, uint64_t *frame_bytes, uint64_t *padding_bytes);
 
 /* Payloads behind the records of a queue: end to end in the run, each as long as its length says. named 0: no position is named, else `position` is.
- * has_last 0: no payload took a position (the empty answer), else 1 and the last position. Over 128 payloads is 5; a log with longer appends is still read. */
+ * has_last 0: no payload took a position (the empty answer, which counts 0 and 0), else 1 and the last position. Over 128 payloads is 5; a log with longer appends
+ * is still read. */
 uint64_t mrecordlog_append(uint8_t *log, size_t log_len, size_t *write_position,
                            uint8_t *scratch, size_t scratch_len,
                            uint8_t *names, size_t names_len,
@@ -77,7 +81,8 @@ uint64_t mrecordlog_append(uint8_t *log, size_t log_len, size_t *write_position,
                            uint64_t named, uint64_t position,
                            const uint8_t *run, size_t run_len,
                            const uint64_t *lens, size_t lens_len,
-                           uint64_t *has_last, uint64_t *last_position, uint64_t *bytes_written);
+                           uint64_t *has_last, uint64_t *last_position,
+                           uint64_t *frame_bytes, uint64_t *padding_bytes);
 
 /* The first record of a range of positions of a queue. lower_kind: 1 from, 2 after, else no bound; upper_kind: 1 through, 2 before, else no bound.
  * found 1: its position, and its payload is payloads[start .. start + length]; found 0: none. */

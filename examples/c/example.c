@@ -28,13 +28,14 @@ static void list(void) {
 
 int main(void) {
     size_t place = 0;
-    uint64_t refused, bytes, has_last, last, lost, resumed, start, next;
+    uint64_t refused, frame_bytes, padding_bytes, has_last, last, lost, resumed, start, next;
     const uint64_t lens[] = {3, 0};
-    refused = mrecordlog_create(block, BLOCK, &place, scratch, SCRATCH, names, NAMES, payloads, PAYLOADS, entries, ENTRIES, table, TABLE, name, 1, &bytes);
-    printf("create: refused %" PRIu64 ", bytes %" PRIu64 "\n", refused, bytes);
+    refused = mrecordlog_create(block, BLOCK, &place, scratch, SCRATCH, names, NAMES, payloads, PAYLOADS, entries, ENTRIES, table, TABLE, name, 1,
+                                &frame_bytes, &padding_bytes);
+    printf("create: refused %" PRIu64 ", bytes %" PRIu64 " + %" PRIu64 "\n", refused, frame_bytes, padding_bytes);
     refused = mrecordlog_append(block, BLOCK, &place, scratch, SCRATCH, names, NAMES, payloads, PAYLOADS, entries, ENTRIES, table, TABLE, name, 1,
-                                0, 0, (const uint8_t *)"one", 3, lens, 2, &has_last, &last, &bytes);
-    printf("append: refused %" PRIu64 ", last %" PRIu64 ", bytes %" PRIu64 "\n", refused, last, bytes);
+                                0, 0, (const uint8_t *)"one", 3, lens, 2, &has_last, &last, &frame_bytes, &padding_bytes);
+    printf("append: refused %" PRIu64 ", last %" PRIu64 ", bytes %" PRIu64 " + %" PRIu64 "\n", refused, last, frame_bytes, padding_bytes);
     list();
     memset(names, 0, NAMES);
     memset(payloads, 0, PAYLOADS);

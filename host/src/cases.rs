@@ -306,6 +306,33 @@ pub fn alphabet(which: usize) -> Vec<Step> {
     }
 }
 
+/// Lists with 0 to 8 bytes left in the block before a call: each call, an append over three blocks, one with the empty answer, and one that is refused 9; then an
+/// append more.
+pub fn at_block_ends() -> Vec<List> {
+    let name = b"a".to_vec();
+    let append = |position, len: usize| Call::Append { name: name.clone(), position, run: vec![b'x'; len], lens: vec![len as u64] };
+    let calls = [
+        Call::Create { name: b"b".to_vec() },
+        Call::Delete { name: name.clone() },
+        Call::Truncate { name: name.clone(), through: 0 },
+        append(None, 1),
+        append(None, 2 * BLOCK),
+        append(Some(1), 1),
+        append(Some(0), 1),
+    ];
+    let mut lists = vec![];
+    for left in 0..=8 {
+        // the frames of the create and of the two appends before the call have 19, 31 and 31 bytes, and the first payload
+        let filler = append(None, BLOCK - left - 19 - 31 - 31);
+        for call in &calls {
+            let steps = [Call::Create { name: name.clone() }, filler.clone(), append(None, 0), call.clone(), append(None, 5)];
+            let steps = steps.into_iter().map(Step::Call).collect();
+            lists.push(List { log: 5 * BLOCK, scratch: 3 * BLOCK, names: 8, payloads: 5 * BLOCK, seed: left as u64, steps });
+        }
+    }
+    lists
+}
+
 /// The lists of `len` letters by number: `number` below letters to the power of `len`.
 pub fn spelled(letters: &[Step], len: usize, mut number: usize) -> Vec<Step> {
     (0..len)

@@ -119,7 +119,7 @@ impl Oracle {
     }
 
     /// A call whose name is UTF-8 and whose lengths agree.
-    pub fn call(&mut self, call: &Call) -> Result<Done, Refused> {
+    pub fn call(&mut self, call: &Call) -> Result<Done<u64>, Refused> {
         let name = std::str::from_utf8(call.name()).unwrap();
         match call {
             Call::Create { .. } => self.create(name).map(|bytes| Done::Created { bytes }),

@@ -101,13 +101,39 @@ pub fn payloads<'a>(run: &'a [u8], lens: &[u64]) -> Vec<&'a [u8]> {
         .collect()
 }
 
-/// What a call answers where it is not refused.
+/// The bytes written, in two counts: frames, headers and data; and the zeros before them (02, "Padding counted by itself").
+#[derive(Clone, Copy, Debug, Default, PartialEq, Eq)]
+pub struct Counts {
+    pub frame: u64,
+    pub padding: u64,
+}
+
+/// What a call answers where it is not refused. The bytes written are two counts, or their sum, which is what the Rust answers.
 #[derive(Clone, Copy, Debug, PartialEq, Eq)]
-pub enum Done {
-    Created { bytes: u64 },
-    Deleted { bytes: u64 },
-    Truncated { evicted: u64, bytes: u64 },
-    Appended { last: Option<u64>, bytes: u64 },
+pub enum Done<Bytes = Counts> {
+    Created { bytes: Bytes },
+    Deleted { bytes: Bytes },
+    Truncated { evicted: u64, bytes: Bytes },
+    Appended { last: Option<u64>, bytes: Bytes },
+}
+
+impl Done {
+    pub fn counts(self) -> Counts {
+        match self {
+            Done::Created { bytes } | Done::Deleted { bytes } | Done::Truncated { bytes, .. } | Done::Appended { bytes, .. } => bytes,
+        }
+    }
+
+    /// "The sum is the bytes written."
+    pub fn summed(self) -> Done<u64> {
+        let bytes = self.counts().frame + self.counts().padding;
+        match self {
+            Done::Created { .. } => Done::Created { bytes },
+            Done::Deleted { .. } => Done::Deleted { bytes },
+            Done::Truncated { evicted, .. } => Done::Truncated { evicted, bytes },
+            Done::Appended { last, .. } => Done::Appended { last, bytes },
+        }
+    }
 }
 
 /// A bound of a range of positions.

@@ -1,23 +1,23 @@
 //! A safe wrapper over the port's exported entries (include/mrecordlog.h): it owns all that is lent.
 
 use crate::frames::items_of;
-use crate::plain::{Bound, Call, Corruption, Done, Reader, Reading, Record, Type};
+use crate::plain::{Bound, Call, Corruption, Counts, Done, Reader, Reading, Record, Type};
 
 #[rustfmt::skip]
 extern "C" {
     fn mrecordlog_create(log: *mut u8, log_len: usize, write_position: *mut usize, scratch: *mut u8, scratch_len: usize,
         names: *mut u8, names_len: usize, payloads: *mut u8, payloads_len: usize, entries: *mut u8, entries_len: usize, table: *mut u8, table_len: usize,
-        name: *const u8, name_len: usize, bytes_written: *mut u64) -> u64;
+        name: *const u8, name_len: usize, frame_bytes: *mut u64, padding_bytes: *mut u64) -> u64;
     fn mrecordlog_delete(log: *mut u8, log_len: usize, write_position: *mut usize, scratch: *mut u8, scratch_len: usize,
         names: *mut u8, names_len: usize, payloads: *mut u8, payloads_len: usize, entries: *mut u8, entries_len: usize, table: *mut u8, table_len: usize,
-        name: *const u8, name_len: usize, bytes_written: *mut u64) -> u64;
+        name: *const u8, name_len: usize, frame_bytes: *mut u64, padding_bytes: *mut u64) -> u64;
     fn mrecordlog_truncate(log: *mut u8, log_len: usize, write_position: *mut usize, scratch: *mut u8, scratch_len: usize,
         names: *mut u8, names_len: usize, payloads: *mut u8, payloads_len: usize, entries: *mut u8, entries_len: usize, table: *mut u8, table_len: usize,
-        name: *const u8, name_len: usize, through: u64, evicted: *mut u64, bytes_written: *mut u64) -> u64;
+        name: *const u8, name_len: usize, through: u64, evicted: *mut u64, frame_bytes: *mut u64, padding_bytes: *mut u64) -> u64;
     fn mrecordlog_append(log: *mut u8, log_len: usize, write_position: *mut usize, scratch: *mut u8, scratch_len: usize,
         names: *mut u8, names_len: usize, payloads: *mut u8, payloads_len: usize, entries: *mut u8, entries_len: usize, table: *mut u8, table_len: usize,
         name: *const u8, name_len: usize, named: u64, position: u64, run: *const u8, run_len: usize, lens: *const u64, lens_len: usize,
-        has_last: *mut u64, last_position: *mut u64, bytes_written: *mut u64) -> u64;
+        has_last: *mut u64, last_position: *mut u64, frame_bytes: *mut u64, padding_bytes: *mut u64) -> u64;
     fn mrecordlog_range(names: *const u8, names_len: usize, payloads: *const u8, payloads_len: usize, entries: *const u8, entries_len: usize,
         table: *const u8, table_len: usize, name: *const u8, name_len: usize, lower_kind: u64, lower: u64, upper_kind: u64, upper: u64,
         found: *mut u64, position: *mut u64, start: *mut u64, length: *mut u64) -> u64;
@@ -232,45 +232,46 @@ impl Port {
     }
 
     /// The bytes written.
-    pub fn create(&mut self, name: &[u8]) -> Result<u64, Refused> {
-        let mut bytes = UNSET;
-        let number = lend!(self, mrecordlog_create, name, &mut bytes);
-        refused(number, &[bytes])?;
-        Ok(bytes)
+    pub fn create(&mut self, name: &[u8]) -> Result<Counts, Refused> {
+        let (mut frame, mut padding) = (UNSET, UNSET);
+        let number = lend!(self, mrecordlog_create, name, &mut frame, &mut padding);
+        refused(number, &[frame, padding])?;
+        Ok(Counts { frame, padding })
     }
 
     /// The bytes written.
-    pub fn delete(&mut self, name: &[u8]) -> Result<u64, Refused> {
-        let mut bytes = UNSET;
-        let number = lend!(self, mrecordlog_delete, name, &mut bytes);
-        refused(number, &[bytes])?;
-        Ok(bytes)
+    pub fn delete(&mut self, name: &[u8]) -> Result<Counts, Refused> {
+        let (mut frame, mut padding) = (UNSET, UNSET);
+        let number = lend!(self, mrecordlog_delete, name, &mut frame, &mut padding);
+        refused(number, &[frame, padding])?;
+        Ok(Counts { frame, padding })
     }
 
     /// The records evicted and the bytes written.
-    pub fn truncate(&mut self, name: &[u8], through: u64) -> Result<(u64, u64), Refused> {
-        let (mut evicted, mut bytes) = (UNSET, UNSET);
-        let number = lend!(self, mrecordlog_truncate, name, through, &mut evicted, &mut bytes);
-        refused(number, &[evicted, bytes])?;
-        Ok((evicted, bytes))
+    pub fn truncate(&mut self, name: &[u8], through: u64) -> Result<(u64, Counts), Refused> {
+        let (mut evicted, mut frame, mut padding) = (UNSET, UNSET, UNSET);
+        let number = lend!(self, mrecordlog_truncate, name, through, &mut evicted, &mut frame, &mut padding);
+        refused(number, &[evicted, frame, padding])?;
+        Ok((evicted, Counts { frame, padding }))
     }
 
     /// The last position, where a payload took one, and the bytes written.
-    pub fn append(&mut self, name: &[u8], position: Option<u64>, run: &[u8], lens: &[u64]) -> Result<(Option<u64>, u64), Refused> {
+    pub fn append(&mut self, name: &[u8], position: Option<u64>, run: &[u8], lens: &[u64]) -> Result<(Option<u64>, Counts), Refused> {
         self.append_by(name, position.is_some() as u64, position.unwrap_or(0), run, lens)
     }
 
     /// `append` with the position as the entry takes it: named by any number but 0.
-    pub fn append_by(&mut self, name: &[u8], named: u64, at: u64, run: &[u8], lens: &[u64]) -> Result<(Option<u64>, u64), Refused> {
-        let (mut has_last, mut last, mut bytes) = (UNSET, UNSET, UNSET);
+    pub fn append_by(&mut self, name: &[u8], named: u64, at: u64, run: &[u8], lens: &[u64]) -> Result<(Option<u64>, Counts), Refused> {
+        let (mut has_last, mut last, mut frame, mut padding) = (UNSET, UNSET, UNSET, UNSET);
         #[rustfmt::skip]
         let number = lend!(
-            self, mrecordlog_append, name, named, at, run.as_ptr(), run.len(), lens.as_ptr(), lens.len(), &mut has_last, &mut last, &mut bytes
+            self, mrecordlog_append, name, named, at, run.as_ptr(), run.len(), lens.as_ptr(), lens.len(), &mut has_last, &mut last, &mut frame, &mut padding
         );
-        refused(number, &[has_last, last, bytes])?;
+        refused(number, &[has_last, last, frame, padding])?;
+        let counts = Counts { frame, padding };
         match (has_last, last) {
-            (0, 0) => Ok((None, bytes)),
-            (1, _) => Ok((Some(last), bytes)),
+            (0, 0) => Ok((None, counts)),
+            (1, _) => Ok((Some(last), counts)),
             _ => Err(Refused::WithValues(0)),
         }
     }

@@ -20,7 +20,7 @@ def call(name, crate, more, asked, log, close, answer, typed, told, kept, closin
              calls=[dict(f=arranged, **{'with': same('names', 'payloads', 'entries', 'table')}),
                     dict(f=log, **{'with': dict(same('log', 'wp', 'scratch', 'names', 'payloads', 'table', *[x[0] for x in more]), sound=('(arranged %s)' % MEMORY, ''), room=('(length entries)', '(room-entries .0)')),
                                    'need': '(find-asks %s)' % MEMORY, 'is': 'plan-is', 'res': 'plan', 'ends': {'scratch': 'scratchAt given ' + k}}),
-                    dict(f=apply, **{'with': dict(same('names', 'payloads', 'entries', 'table', 'scratch'), doing=field('Plan', 'plan', 'plan-is', 5, 'Doing', 'doing')), 'need': '(may-do given %s %s)' % (k, typing), 'is': 'refusal-is'}),
+                    dict(f=apply, **{'with': dict(same('names', 'payloads', 'entries', 'table', 'scratch'), doing=field('Plan', 'plan', 'plan-is', 6, 'Doing', 'doing')), 'need': '(may-do given %s %s)' % (k, typing), 'is': 'refusal-is'}),
                     dict(f=close, **{'with': closing, 'is': 'res-is', 'res': close.res})])
 
 SPECS = '''

@@ -77,7 +77,7 @@ not-applied rs w (inr h) true e = absurd (omega (arith, w .lowest 6 e .1))
 
 -- ---- calls
 
-refusal-answered : (s : State) (k : Call) → callOf s k .answer .refusal ≡ refusalOf s k
+pub refusal-answered : (s : State) (k : Call) → callOf s k .answer .refusal ≡ refusalOf s k
 refusal-answered s k = go (refusalOf s k) refl
   where
     go : (i : ℕ) → refusalOf s k ≡ i → callOf s k .answer .refusal ≡ refusalOf s k

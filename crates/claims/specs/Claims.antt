@@ -1,5 +1,5 @@
 -- Claim.
--- What document 01 says of every lent memory that is arranged, of every reader, of asking again and of the log's tail; and what demands 2 and 3 say of `lost` and of
+-- What document 01 says of every lent memory that is arranged, of every reader, of asking again, of the log's tail and of what a call counts; and what demands 2 and 3 say of `lost` and of
 -- the place where a writer resumes. Each claim is proved in proofs/ under its name with hyphens.
 -- Assumes nothing.
 use mathlib.Core.Path.{_≡_}
@@ -20,7 +20,7 @@ use Rattle.queues.specs.declared.Upper.{Upper}
 use Rattle.queues.specs.Queues.{Queue, held, find}
 use Rattle.queues.specs.Ranges.{allInRange, firstItem, firstOf}
 use Rattle.queues.specs.Layout.{Memory, meaning, capacities}
-use Rattle.calls.specs.State.{Call, CallAnswer}
+use Rattle.calls.specs.State.{Call, CallAnswer, bytesWritten}
 use Rattle.calls.specs.Refusals.{logRefused, stateNotArranged, readerNotArranged}
 use Rattle.calls.specs.Reading.{lostIn}
 use Rattle.calls.specs.Claims.{countedIn}
@@ -145,3 +145,15 @@ pub record TailKept (log log′ : List ℕ) : Type 0 where
 -- of every call, whatever it was lent
 abbrev pub CallKeepsTail : Type 0
 CallKeepsTail = (l l′ : Lent) (k : Call) (a : CallAnswer) → CallKept l k a l′ → TailKept (l .log) (l′ .log)
+
+-- ---- the two counts of a call (02, Ticket 3)
+
+-- what an answer counts: its sum is how far the write position moved; a call that wrote counts the padding of its write position; a refusal has "counts of 0"
+pub record CountsKept (l l′ : Lent) (a : CallAnswer) : Type 0 where
+  pub moved : l′ .place ≡ l .place + bytesWritten a
+  pub padded : 0 < a .frame-bytes → a .padding-bytes ≡ padding (l .place)
+  pub refused-none : 0 < a .refusal → (a .frame-bytes ≡ 0) × (a .padding-bytes ≡ 0)
+
+-- of every call, whatever it was lent
+abbrev pub CallKeepsCounts : Type 0
+CallKeepsCounts = (l l′ : Lent) (k : Call) (a : CallAnswer) → CallKept l k a l′ → CountsKept l l′ a

@@ -54,7 +54,8 @@ pub fn tell_call(answer: Called) -> CallTold
         Called::Done {
             last,
             evicted,
-            bytes,
+            frame_bytes,
+            padding_bytes,
         } => {
             let has = has_last(last);
             let at = last_or_0(last);
@@ -63,7 +64,8 @@ pub fn tell_call(answer: Called) -> CallTold
                 has_last: has,
                 last: at,
                 evicted: evicted as u64,
-                bytes: bytes as u64,
+                frame_bytes: frame_bytes as u64,
+                padding_bytes: padding_bytes as u64,
             }
         }
         Called::Refused(number) => {
@@ -73,7 +75,8 @@ pub fn tell_call(answer: Called) -> CallTold
                 has_last: 0,
                 last: 0,
                 evicted: 0,
-                bytes: 0,
+                frame_bytes: 0,
+                padding_bytes: 0,
             }
         }
     }

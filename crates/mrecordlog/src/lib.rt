@@ -6,13 +6,15 @@ mod questions;
 mod reading;
 mod writes;
 
-// What a call that writes tells: the refusal's number or 0, whether there is a last position and which, the records evicted, and the bytes written.
+// What a call that writes tells: the refusal's number or 0, whether there is a last position and which, the records evicted, and the bytes written, those of
+// the frames and those of the padding.
 pub struct CallTold {
     pub refusal: u64,
     pub has_last: u64,
     pub last: u64,
     pub evicted: u64,
-    pub bytes: u64,
+    pub frame_bytes: u64,
+    pub padding_bytes: u64,
 }
 
 // What a read tells: the refusal's number or 0, the kind of its answer, and a record's position and places in the scratch.

@@ -58,49 +58,70 @@ pub fn say_record(s: &[u8], position: u64, start: usize, len: usize) {
     say_part(b" ", s, start, len);
 }
 
+// The bytes written: both counts, frame bytes + padding bytes, or their sum.
+fn say_written(what: &[u8], frame_bytes: usize, padding_bytes: usize, both: bool) {
+    let frames = frame_bytes as u64;
+    let padding = padding_bytes as u64;
+    if both {
+        say(what, frames);
+        say(b" + ", padding);
+    } else {
+        say(what, std::num::wrapping_add_u64(frames, padding));
+    }
+}
+
 // What a create or a delete answers: the bytes written.
-pub fn done(what: &[u8], answer: Called) {
+pub fn done(what: &[u8], answer: Called, both: bool) {
     match answer {
         Called::Done {
             last: _,
             evicted: _,
-            bytes,
-        } => say(what, bytes as u64),
+            frame_bytes,
+            padding_bytes,
+        } => say_written(what, frame_bytes, padding_bytes, both),
         Called::Refused(n) => refused(n),
     }
 }
 
-pub fn truncated(answer: Called) {
+pub fn truncated(answer: Called, both: bool) {
     match answer {
         Called::Done {
             last: _,
             evicted,
-            bytes,
+            frame_bytes,
+            padding_bytes,
         } => {
             say(b" evicted ", evicted as u64);
-            say(b" bytes ", bytes as u64);
+            say_written(b" bytes ", frame_bytes, padding_bytes, both);
         }
         Called::Refused(n) => refused(n),
     }
 }
 
-fn say_last(last: Last, bytes: usize) {
+// The empty answer has counts too: they are printed with both.
+fn say_last(last: Last, frame_bytes: usize, padding_bytes: usize, both: bool) {
     match last {
         Last::At(position) => {
             say(b" last ", position);
-            say(b" bytes ", bytes as u64);
+            say_written(b" bytes ", frame_bytes, padding_bytes, both);
         }
-        Last::Nowhere => text(b" empty"),
+        Last::Nowhere => {
+            text(b" empty");
+            if both {
+                say_written(b" ", frame_bytes, padding_bytes, both);
+            }
+        }
     }
 }
 
-pub fn appended(answer: Called) {
+pub fn appended(answer: Called, both: bool) {
     match answer {
         Called::Done {
             last,
             evicted: _,
-            bytes,
-        } => say_last(last, bytes),
+            frame_bytes,
+            padding_bytes,
+        } => say_last(last, frame_bytes, padding_bytes, both),
         Called::Refused(n) => refused(n),
     }
 }

@@ -60,19 +60,22 @@ fn append_run(
     let sum = number(line, b"sum", run.len() as u64);
     spread(lens, sum, has(line, b"even"));
     let position = at_position(line);
-    appended(multi_record_log::append(
-        log,
-        at,
-        scratch,
-        names,
-        payloads,
-        entries,
-        table,
-        name,
-        position,
-        run,
-        lens,
-    ));
+    appended(
+        multi_record_log::append(
+            log,
+            at,
+            scratch,
+            names,
+            payloads,
+            entries,
+            table,
+            name,
+            position,
+            run,
+            lens,
+        ),
+        has(line, b"counts"),
+    );
 }
 
 // At most 98,304 bytes in 1,025 payloads.

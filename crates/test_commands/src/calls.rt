@@ -17,10 +17,12 @@ fn create(
     entries: &mut [u8],
     table: &mut [u8],
     name: &[u8],
+    line: &[u8],
 ) {
     done(
         b" created ",
         multi_record_log::create(log, at, scratch, names, payloads, entries, table, name),
+        has(line, b"counts"),
     );
 }
 
@@ -33,10 +35,12 @@ fn delete(
     entries: &mut [u8],
     table: &mut [u8],
     name: &[u8],
+    line: &[u8],
 ) {
     done(
         b" deleted ",
         multi_record_log::delete(log, at, scratch, names, payloads, entries, table, name),
+        has(line, b"counts"),
     );
 }
 
@@ -52,17 +56,20 @@ fn truncate(
     line: &[u8],
 ) {
     let through = number(line, b"through", 0);
-    truncated(multi_record_log::truncate(
-        log,
-        at,
-        scratch,
-        names,
-        payloads,
-        entries,
-        table,
-        name,
-        through,
-    ));
+    truncated(
+        multi_record_log::truncate(
+            log,
+            at,
+            scratch,
+            names,
+            payloads,
+            entries,
+            table,
+            name,
+            through,
+        ),
+        has(line, b"counts"),
+    );
 }
 
 // Whether the line is a call; then it is done.
@@ -78,11 +85,31 @@ fn call(
     line: &[u8],
 ) -> bool {
     if is_command(line, b"create") {
-        create(log, at, scratch, names, payloads, entries, table, name);
+        create(
+            log,
+            at,
+            scratch,
+            names,
+            payloads,
+            entries,
+            table,
+            name,
+            line,
+        );
         return true;
     }
     if is_command(line, b"delete") {
-        delete(log, at, scratch, names, payloads, entries, table, name);
+        delete(
+            log,
+            at,
+            scratch,
+            names,
+            payloads,
+            entries,
+            table,
+            name,
+            line,
+        );
         return true;
     }
     if is_command(line, b"truncate") {

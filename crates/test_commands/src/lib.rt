@@ -7,7 +7,8 @@
 //                         how many bytes of each memory are lent from here on, all where none is named; any other command may say it for itself
 //   start                 a zero log, no queues, write position 0
 //   create NAME, delete NAME, truncate NAME through P, append NAME payloads N bytes N [sum N] [even] [seed N] [at P]
-//                         the answer; with the word `same` at the end also whether all that is lent is left as it was
+//                         the answer, with the sum of the two counts of bytes; with the word `counts` both of them, frame bytes + padding bytes; with the word
+//                         `same` at the end also whether all that is lent is left as it was
 //   positions NAME, first NAME [after P], ranges NAME from P to P, queues
 //                         questions: the first record of a queue; that of nine ranges; all queues with their records
 //   replay, reopen, reads   replay; replay and all queues; all reads up to the end of the log. Writing goes on where a replay resumes

@@ -4,6 +4,7 @@ use test_log_text::clear;
 use test_log_text::count_up;
 use test_log_text::number;
 use test_log_text::put;
+use test_log_text::put_counted;
 use test_log_text::read_into;
 use test_log_text::text;
 
@@ -162,6 +163,33 @@ fn tail(data: &[u8]) {
     tail_in(&mut log, data);
 }
 
+// Records of 12 bytes with 8, 7, 6, 1 and 0 bytes left in the block.
+fn two_counts(log: &mut [u8], data: &[u8]) {
+    text(b"frame bytes + padding bytes:");
+    put_counted(log, 32760, data, 12);
+    put_counted(log, 32761, data, 12);
+    put_counted(log, 32762, data, 12);
+    put_counted(log, 32767, data, 12);
+    put_counted(log, 32768, data, 12);
+    text(b" | 26+0 26+0 19+6 19+1 19+0\n");
+}
+
+// Empty ones with 7 and 6 bytes left; 32,781 bytes with 7 left: First of 0, Middle of 32,761, Last of 20. The last record has no room.
+fn other_counts(log: &mut [u8], data: &[u8]) {
+    text(b"empty, over three blocks, without room:");
+    put_counted(log, 32761, data, 0);
+    put_counted(log, 32762, data, 0);
+    put_counted(log, 32761, data, 32781);
+    put_counted(log, 98298, data, 0);
+    text(b" | 7+0 7+6 32802+0 13\n");
+}
+
+fn counts(log: &mut [u8], data: &[u8]) {
+    clear(log);
+    two_counts(log, data);
+    other_counts(log, data);
+}
+
 fn three_whole_blocks(log: &mut [u8], data: &[u8]) {
     wrong_checksum(log, data);
     lost_blocks(log, data);
@@ -169,6 +197,7 @@ fn three_whole_blocks(log: &mut [u8], data: &[u8]) {
     full(log, data);
     long_for_scratch(log, data);
     zeros_before_a_block(log, data);
+    counts(log, data);
 }
 
 fn all(log: &mut [u8], data: &mut [u8]) {

@@ -35,18 +35,46 @@ pub fn count_up(s: &mut [u8]) {
     }
 }
 
-// A record of the first n bytes of data at a place. Answers the place after it; where there is no room, 13 is printed and the place stays.
-pub fn put(log: &mut [u8], place: usize, data: &[u8], n: usize) -> usize {
+// A record of the first n bytes of data at a place; there is none where the data are shorter.
+fn write(log: &mut [u8], place: usize, data: &[u8], n: usize) -> RecordWrite {
     if data.len() < n {
-        return place;
+        return RecordWrite::NoRoom;
     }
     let table = [0u32; 0];
-    let answer = recordlog::write_record(&table, log, place, &data[0..n]);
-    let RecordWrite::Written { bytes: _, next } = answer else {
+    recordlog::write_record(&table, log, place, &data[0..n])
+}
+
+// The same. Answers the place after it; where there is no room, 13 is printed and the place stays.
+pub fn put(log: &mut [u8], place: usize, data: &[u8], n: usize) -> usize {
+    let answer = write(log, place, data, n);
+    let RecordWrite::Written {
+        frame_bytes: _,
+        padding_bytes: _,
+        next,
+    } = answer
+    else {
         text(b" 13");
         return place;
     };
     next
+}
+
+// The same, with the two counts printed: frame bytes + padding bytes.
+pub fn put_counted(log: &mut [u8], place: usize, data: &[u8], n: usize) {
+    let answer = write(log, place, data, n);
+    let RecordWrite::Written {
+        frame_bytes,
+        padding_bytes,
+        next: _,
+    } = answer
+    else {
+        text(b" 13");
+        return;
+    };
+    text(b" ");
+    number(frame_bytes);
+    text(b"+");
+    number(padding_bytes);
 }
 
 fn show_record(scratch: &[u8], data: &[u8], len: usize) {

@@ -102,7 +102,7 @@ fn write_on(port: &mut Port, rust: &mut Oracle, folder: &Folder, list: &List, ma
     }
     let done = machine.feed(call);
     same("answer of a call after", &number(port.call(call)), &Ok(done))?;
-    same("answer of the Rust to a call after", &rust.call(call), &Ok(done))?;
+    same("answer of the Rust to a call after, the counts' sum", &rust.call(call), &Ok(done.summed()))?;
     let mut file = vec![0; list.log];
     folder.read(&mut file);
     same_bytes("log after a call after", &port.log, &file)

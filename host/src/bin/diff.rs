@@ -108,6 +108,16 @@ fn short_lists(seed: u64, longest: usize, folder: &Folder) -> usize {
     kind.done()
 }
 
+fn lists_at_block_ends(seed: u64, folder: &Folder) -> usize {
+    let mut kind = Kind::new("lists at a block's end", seed);
+    for list in cases::at_block_ends() {
+        if !kind.enough() {
+            kind.list(&list, |list, tally| lists::run(list, folder, tally));
+        }
+    }
+    kind.done()
+}
+
 fn random_logs(seed: u64, count: u64, folder: &Folder) -> usize {
     let mut kind = Kind::new("logs", seed);
     let mut random = Random::new(kind.seed);
@@ -171,6 +181,7 @@ fn main() {
     let mut differences = log_lengths(seed);
     differences += random_lists(seed, numbers["lists"], &folder);
     differences += short_lists(seed, numbers["letters"] as usize, &folder);
+    differences += lists_at_block_ends(seed, &folder);
     differences += random_logs(seed, numbers["logs"], &folder);
     differences += random_hits(seed, numbers["hits"], &folder);
     differences += changed_memories(seed, numbers["memories"], false);

@@ -181,7 +181,7 @@ fn follow(port: &mut Port, rust: &mut Oracle, folder: &Folder, mut machine: Mach
     tally.count("calls");
     let done = machine.feed(&call);
     same("answer of the call behind it", &number(port.call(&call)), &Ok(done))?;
-    same("answer of the Rust's call behind it", &rust.call(&call), &Ok(done))?;
+    same("answer of the Rust's call behind it, the counts' sum", &rust.call(&call), &Ok(done.summed()))?;
     let mut file = vec![0; case.log.len()];
     folder.read(&mut file);
     same_bytes("log after the call behind it", &port.log, &file)?;

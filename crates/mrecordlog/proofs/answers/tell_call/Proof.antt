@@ -21,7 +21,7 @@ number-told-requires : tie.Need-number-told-requires
 number-told-requires c κs = search needs
 
 returns : tie.Need-returns
-returns c = done-told _ _ _ _ _ _ (c .before .before .before .answer .given .1) (c .before .has-last .ensures) (c .last-or-0 .ensures)
+returns c = done-told _ _ _ _ _ _ _ (c .before .before .before .answer .given .1) (c .before .has-last .ensures) (c .last-or-0 .ensures)
 
 returns-2 : tie.Need-returns-2
 returns-2 c = refused-told _ _ _ (c .before .before .answer2 .given .1) (c .number-told .ensures)

@@ -1,10 +1,10 @@
--- `test_log_text::put` is safe: no table is a table.
+-- `test_log_text::write` is safe: no table is a table.
 -- Assumes nothing.
 use mathlib.Core.Path.{refl}
 use mathlib.Core.Logic.{inl}
 use borrow.Author.Needs.{needs}
-use Rattle.test_log_text.proofs.put.Statement.{statement}
-use Rattle.test_log_text.proofs.put.Tie as tie
+use Rattle.test_log_text.proofs.write.Statement.{statement}
+use Rattle.test_log_text.proofs.write.Tie as tie
 
 returns : tie.Need-returns
 returns c = search needs
@@ -24,32 +24,14 @@ part-write-record-end c = search needs
 write-record-requires : tie.Need-write-record-requires
 write-record-requires c κs = inl refl
 
-enum-known-answer : tie.Need-enum-known-answer
-enum-known-answer c = search needs
-
-enum-told : tie.Need-enum-told
-enum-told c = search needs
-
-slice-aggregate-text : tie.Need-slice-aggregate-text
-slice-aggregate-text c = search needs
-
-text-requires : tie.Need-text-requires
-text-requires c κs = search needs
-
 same-length : tie.Need-same-length
 same-length c = search needs
 
 returns-2 : tie.Need-returns-2
 returns-2 c = search needs
 
-same-length-2 : tie.Need-same-length-2
-same-length-2 c = search needs
-
-returns-3 : tie.Need-returns-3
-returns-3 c = search needs
-
-pub put-spec : {M : Type 1} → statement M
-put-spec =
+pub write-spec : {M : Type 1} → statement M
+write-spec =
     tie.close
     (tie.spec
     returns
@@ -58,11 +40,5 @@ put-spec =
     part-write-record-start
     part-write-record-end
     write-record-requires
-    enum-known-answer
-    enum-told
-    slice-aggregate-text
-    text-requires
     same-length
-    returns-2
-    same-length-2
-    returns-3)
+    returns-2)
