@@ -1,4 +1,4 @@
-/* The exported entries of the queue log. Each returns 0, or the number of its refusal (1 to 14 and 18, docs/REFUSALS.md); then all values that it
+/* The exported entries of the queue log. Each returns 0, or the number of its refusal (1 to 15 and 18, docs/REFUSALS.md); then all values that it
  * gives by a pointer are 0. A slice is a pointer and its length; no two slices may overlap, and none may be null, also where its length is 0.
  *
  * Lent to each call: the log, the scratch, and the queue memory: names, payloads, the record table `entries` and the table of queues `table`. Both tables may
@@ -9,7 +9,7 @@
  * The numbers: 1 the log is under one block or over 4,096; 2 a name is over 65,535 bytes; 3 a name is not UTF-8; 4 position 2^64-1 is named; 5 over 128 payloads, or
  * lengths that do not sum to the bytes given; 6 the memory, the reader or the write position is not arranged; 7 the name is held; 8 it is not held; 9 the position is
  * past; 10 a payload would take position 2^64-1; 11 a record is longer than the scratch; 12 the queue memory is full; 13 the log is full; 14 replay meets a position
- * that cannot be taken; 18 a width that does not fit, of the two entries for byte planes alone.
+ * that cannot be taken; 15 the target is too short for the whole copy, of mrecordlog_copy alone; 18 a width that does not fit, of the two entries for byte planes alone.
  */
 #ifndef MRECORDLOG_H
 #define MRECORDLOG_H
@@ -32,6 +32,7 @@
 #define MRECORDLOG_MEMORY_FULL 12
 #define MRECORDLOG_LOG_FULL 13
 #define MRECORDLOG_REPLAY_POSITION 14
+#define MRECORDLOG_TARGET_TOO_SHORT 15
 #define MRECORDLOG_WIDTH_WRONG 18
 
 /* A call that writes, and is not refused, gives the bytes that it wrote to the log in two counts: frame_bytes, the headers and data of its record's frames, and
@@ -111,6 +112,17 @@ uint64_t mrecordlog_replay(const uint8_t *log, size_t log_len,
                            uint8_t *entries, size_t entries_len,
                            uint8_t *table, size_t table_len,
                            uint64_t *lost, uint64_t *resumed);
+
+/* A log cut down to what is held: the target's whole blocks are zeroed, and the queues written into it in byte order of their names, for each a touch at its start and
+ * an append for each record held. Gives where the last frame ends, or 0; writing may go on there. It meets 1 (of the target), 6 (of the queue memory), 11 and 15, and
+ * then leaves the target and the scratch as they were. The queue memory stays. */
+uint64_t mrecordlog_copy(uint8_t *target, size_t target_len,
+                         uint8_t *scratch, size_t scratch_len,
+                         const uint8_t *names, size_t names_len,
+                         const uint8_t *payloads, size_t payloads_len,
+                         const uint8_t *entries, size_t entries_len,
+                         const uint8_t *table, size_t table_len,
+                         uint64_t *end);
 
 /* One read. The reader is block, cursor and spoilt (0, or any other number for a spoilt block), all 0 when fresh. It moves on in place; a refusal leaves it as it was.
  * kind: 0 end of log; 1 truncate, 2 touch, 3 delete, 4 append (the record's type byte), its position, where its name lies in the scratch, and for an append where its items

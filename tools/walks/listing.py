@@ -39,9 +39,11 @@ use Rattle.listing.specs.Writing.{written, listed}
 use Rattle.listing.specs.Internal.{behind, cursor, Lists}
 use Rattle.listing.specs.Listing.{queuesWord, numberLine, endLines, listing, refusal}
 use Rattle.listing.specs.Claims.{LogFits}
-use Rattle.listing.specs.Passes.{counted, countTo, entryLine, rowLine, RowLine, linesTo, queueText, queuesTo, recordsAt, queuesAt, EntriesFit, QueueFits, QueuesFit}
-use Rattle.listing.proofs.Counting.{count-zero, count-next, count-below, records-zero, lines-zero, records-next, lines-next, lines-length, entry-inside, queue-text-is, queues-zero, texts-zero, queues-next, texts-next, texts-length, queue-inside}
-use Rattle.listing.proofs.Meanings.{queues-fit, list-is}
+use Rattle.listing.specs.Passes.{counted, countTo, entryLine, rowLine, RowLine, linesTo, queueText, queuesTo, recordsAt, queuesAt}
+use Rattle.queues.specs.Passes.{EntriesFit, QueueFits, QueuesFit}
+use Rattle.listing.proofs.Counting.{count-zero, count-next, count-below, records-zero, lines-zero, records-next, lines-next, lines-length, queue-text-is, queues-zero, texts-zero, queues-next, texts-next, texts-length}
+use Rattle.listing.proofs.Meanings.{list-is}
+use Rattle.queues.proofs.Passes.{entry-inside, queue-inside, queues-fit}
 '''
 
 # ---- the walks

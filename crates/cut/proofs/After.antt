@@ -18,7 +18,8 @@ use Rattle.frame.specs.Block.{padding, blocks}
 use Rattle.frame.specs.Reader.{fresh}
 use Rattle.frame.proofs.Headers.{header}
 use Rattle.recordlog.specs.Write.{framesOf, bytesOf, recordBytes, placeAfter}
-use Rattle.recordlog.specs.Claims.{placeAll, recordsBytes, readAll, Each}
+use Rattle.recordlog.specs.Laid.{placeAll, recordsBytes}
+use Rattle.recordlog.specs.Claims.{readAll, Each}
 use Rattle.recordlog.specs.Read.{whole, endOfLog, readsFrom, resume}
 use Rattle.recordlog.proofs.Frames.{endOf, length-bytes, framesAll, length-record, length-written}
 use Rattle.recordlog.proofs.Needed.{needs}

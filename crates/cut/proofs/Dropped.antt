@@ -10,7 +10,8 @@ use Rattle.frame.specs.Frame.{begins}
 use Rattle.frame.specs.declared.FrameType.{FrameType}
 use Rattle.frame.specs.declared.Corruption.{Corruption}
 use Rattle.recordlog.specs.Write.{Frame, framesOf, placeAfter}
-use Rattle.recordlog.specs.Claims.{placeAll, Each}
+use Rattle.recordlog.specs.Laid.{placeAll}
+use Rattle.recordlog.specs.Claims.{Each}
 use Rattle.recordlog.specs.Read.{Answer, whole, endOfLog, idle, gatherWhen, gather}
 use Rattle.recordlog.proofs.Sees.{Event, good, corrupted, joined, assemble}
 use Rattle.recordlog.proofs.Frames.{Kinds, contentsOf, owned, framesAll}

@@ -8,7 +8,7 @@ use lib.ListN.{length, take, drop, length-append}
 use lib.Seq.{take-append-le, drop-drop, drop-at}
 use Rattle.slices.specs.Bytes.{zeros}
 use Rattle.frame.proofs.Step.{drop-zeros}
-use Rattle.recordlog.specs.Claims.{placeAll, recordsBytes, laid}
+use Rattle.recordlog.specs.Laid.{placeAll, recordsBytes, laid}
 use Rattle.recordlog.proofs.Frames.{length-written}
 use Rattle.recordlog.proofs.Back.{log-length}
 use Rattle.cut.specs.Cut.{cutAt}

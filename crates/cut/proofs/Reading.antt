@@ -16,7 +16,8 @@ use Rattle.frame.specs.Reader.{fresh, place, readFrame}
 use Rattle.frame.proofs.Headers.{header}
 use Rattle.frame.proofs.Step.{start-fits, drop-zeros}
 use Rattle.recordlog.specs.Write.{Frame, framesOf, bytesOf}
-use Rattle.recordlog.specs.Claims.{placeAll, readAll, Each}
+use Rattle.recordlog.specs.Laid.{placeAll}
+use Rattle.recordlog.specs.Claims.{readAll, Each}
 use Rattle.recordlog.specs.Read.{Answer, whole, corruption, endOfLog, readsFrom}
 use Rattle.recordlog.proofs.Sees.{corrupted, assemble, Sees, Any, finished, Gives, readsFrom-sees}
 use Rattle.recordlog.proofs.Frames.{endOf, end-ge, framesAll, laid-all, end-all}

@@ -11,7 +11,7 @@ use Rattle.frame.specs.Frame.{frameBytes}
 use Rattle.frame.specs.Block.{padding}
 use Rattle.frame.proofs.Headers.{length-frame}
 use Rattle.recordlog.specs.Write.{Frame, framesOf, bytesOf, placeAfter}
-use Rattle.recordlog.specs.Claims.{placeAll, laid}
+use Rattle.recordlog.specs.Laid.{placeAll, laid}
 use Rattle.recordlog.proofs.Append.{place-append}
 use Rattle.recordlog.proofs.Frames.{Stands, Laid, after, length-bytes, bytes-append, framesAll, laid-all, end-all, all-append, written-frames}
 use Rattle.cut.specs.Cut.{cutAt, stored, Unfit, UnfitFrame, complete, leftOf, left}

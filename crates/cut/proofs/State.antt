@@ -16,7 +16,8 @@ use Rattle.frame.specs.Frame.{typeNumber, frameBytes, allZero}
 use Rattle.frame.specs.Block.{padding}
 use Rattle.frame.proofs.Headers.{header, le-sum}
 use Rattle.recordlog.specs.Write.{Frame, framesOf, bytesOf, placeAfter}
-use Rattle.recordlog.specs.Claims.{placeAll, laid, Each}
+use Rattle.recordlog.specs.Laid.{placeAll, laid}
+use Rattle.recordlog.specs.Claims.{Each}
 use Rattle.recordlog.specs.Read.{whole, idle}
 use Rattle.recordlog.proofs.Sees.{Event, assemble}
 use Rattle.recordlog.proofs.Frames.{Stands, Laid, after, endOf, end-append, laid-left, laid-right, laid-append, length-bytes, bytes-append, framesAll, laid-all, end-all, owned}

@@ -13,7 +13,7 @@ use Rattle.slices.proofs.Put.{put-none, put-on, put-put, put-here, length-put}
 use Rattle.frame.specs.Block.{padding}
 use Rattle.frame.proofs.Step.{drop-zeros}
 use Rattle.recordlog.specs.Write.{recordBytes, placeAfter, bytesOf}
-use Rattle.recordlog.specs.Claims.{placeAll, recordsBytes}
+use Rattle.recordlog.specs.Laid.{placeAll, recordsBytes}
 use Rattle.recordlog.proofs.Frames.{framesAll, written-frames, length-record, length-written}
 use Rattle.recordlog.proofs.Resume.{resumes-same}
 use Rattle.cut.specs.Claims.{writeAll}

@@ -8,7 +8,8 @@ use native.Mathlib.Omega.{arith}
 use lib.Dec.{eqb}
 use lib.ListN.{length, take, drop}
 use Rattle.recordlog.specs.Write.{Frame, framesOf}
-use Rattle.recordlog.specs.Claims.{placeAll, readAll, Each}
+use Rattle.recordlog.specs.Laid.{placeAll}
+use Rattle.recordlog.specs.Claims.{readAll, Each}
 use Rattle.recordlog.specs.Read.{whole, endOfLog, resume}
 use Rattle.record.specs.Record.{Record, encode}
 use Rattle.record.specs.Fits.{WellFormed}

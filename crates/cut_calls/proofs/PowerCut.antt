@@ -9,7 +9,8 @@ use lib.ListN.{length, take, drop}
 use Rattle.slices.proofs.Put.{length-put}
 use Rattle.frame.specs.Block.{blocks}
 use Rattle.recordlog.specs.Write.{Frame, framesOf, placeAfter, recordBytes}
-use Rattle.recordlog.specs.Claims.{placeAll, laid, readAll, Each}
+use Rattle.recordlog.specs.Laid.{placeAll, laid}
+use Rattle.recordlog.specs.Claims.{readAll, Each}
 use Rattle.recordlog.specs.Read.{whole, endOfLog}
 use Rattle.recordlog.proofs.Frames.{length-record}
 use Rattle.record.specs.Record.{Record, encode}

@@ -12,7 +12,7 @@ use Rattle.slices.specs.Put.{put}
 use Rattle.slices.proofs.Put.{length-put}
 use Rattle.frame.specs.Block.{blocks}
 use Rattle.recordlog.specs.Write.{placeAfter, recordBytes}
-use Rattle.recordlog.specs.Claims.{placeAll}
+use Rattle.recordlog.specs.Laid.{placeAll}
 use Rattle.recordlog.proofs.Frames.{length-record}
 use Rattle.record.specs.Record.{Record, encode}
 use Rattle.record.specs.Fits.{WellFormed}

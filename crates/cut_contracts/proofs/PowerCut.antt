@@ -116,7 +116,7 @@ power-cut h l run k a l′ w wr c limit low high unfit few = after-cut h l run k
 -- ---- after reopening
 
 -- every list of calls over lent memory is one over its meaning
-since-means : (l₀ : Lent) {h : List Fed} {l : Lent} → Since l₀ h l → StateSince (stateOf l₀) h (stateOf l)
+pub since-means : (l₀ : Lent) {h : List Fed} {l : Lent} → Since l₀ h l → StateSince (stateOf l₀) h (stateOf l)
 since-means l₀ none = state-none
 since-means l₀ (call {h} {l} k a l′ r w) = state-call k a (stateOf l′) (since-means l₀ r) (w .typed) (w .answer) (call-means l l′ k a w)
 

@@ -49,7 +49,8 @@ use Rattle.listing.specs.Writing.{written, listed}
 use Rattle.listing.specs.Internal.{behind, cursor}
 use Rattle.listing.specs.Listing.{queuesWord, numberLine, endLines}
 use Rattle.listing.specs.Claims.{LogFits}
-use Rattle.listing.specs.Passes.{counted, countTo, entryLine, rowLine, RowLine, linesTo, queueText, recordsAt, EntriesFit, QueueFits}
+use Rattle.listing.specs.Passes.{counted, countTo, entryLine, rowLine, RowLine, linesTo, queueText, recordsAt}
+use Rattle.queues.specs.Passes.{EntriesFit, QueueFits}
 use Rattle.mem_entries.proofs.Hold.{Hold, HoldShr, Lent, at-list, slice, lends, back}
 use Rattle.mem_entries.proofs.Calls.{calls-kept}
 use Rattle.mem_entries.proofs.Typed.{IsRecordEntry, IsHeld}

@@ -1,19 +1,21 @@
 -- The passes over the record table and the table of queues, one entry or row at a time.
 -- Assumes nothing.
-use mathlib.Core.Path.{_≡_, refl, sym, ap, ap₂, subst, _∙_}
+use mathlib.Core.Path.{_≡_, refl, sym, ap, ap₂, _∙_}
 use mathlib.Core.Bool.{Bool, true, false, cond}
 use mathlib.Core.List.{List, [], _++_}
-use Prim.Native.Nat.{ℕ, zero, suc, _+_, _-_, _≤_, _<_}
+use Prim.Native.Nat.{ℕ, zero, suc, _+_, _≤_}
 use native.Mathlib.Numerals.{add-one}
 use native.Mathlib.Omega.{arith}
 use lib.Dec.{eqb}
 use lib.ListN.{length, take, drop, getD}
 use Rattle.queues.specs.declared.RecordEntry.{RecordEntry}
-use Rattle.queues.specs.Layout.{wordsFor, blank}
+use Rattle.queues.specs.Layout.{blank}
 use Rattle.queues.specs.Changes.{wordAt}
+use Rattle.queues.specs.Passes.{passedTo, namesTo}
+use Rattle.queues.proofs.Passes.{passed-more, names-more}
 use Rattle.listing.specs.Writing.{written}
 use Rattle.listing.specs.Internal.{behind, cursor, Wrote}
-use Rattle.listing.specs.Passes.{rowLine, entryLine, counted, countTo, passedTo, linesTo, namesTo, queueText, queuesTo, recordsAt, queuesAt, EntriesFit, QueueFits, QueuesFit}
+use Rattle.listing.specs.Passes.{rowLine, entryLine, counted, countTo, linesTo, queueText, queuesTo, recordsAt, queuesAt}
 use Rattle.listing.proofs.Writes.{length-written, wrote, on}
 
 -- a second piece after the first
@@ -51,29 +53,6 @@ module _ (k : ℕ) (es : List RecordEntry) where
   unfolding countTo counted
   count-below zero = omega arith
   count-below (suc i) = omega (arith, count-below i, counted-at-most (eqb (getD es i blank .queue) k) (countTo k es i))
-
--- what never falls from one number to the next never falls
-module _ (f : ℕ → ℕ) (up : (i : ℕ) → f i ≤ f (suc i)) where
-  rises-by : (i d : ℕ) → f i ≤ f (i + d)
-  rises-by i zero = let e : i + 0 ≡ i = omega arith in rw e (omega arith)
-  rises-by i (suc d) = let e : i + suc d ≡ suc (i + d) = omega arith in rw e (omega (arith, rises-by i d, up (i + d)))
-
-  rises : (i j : ℕ) → i ≤ j → f i ≤ f j
-  rises i j h = let e : i + (j - i) ≡ j = omega arith in subst (λ (n : ℕ). f i ≤ f n) e (rises-by i (j - i))
-
--- one more entry, and one more row
-passed-more : (es : List RecordEntry) (i : ℕ) → passedTo es (suc i) ≡ passedTo es i + getD es i blank .length
-unfolding passedTo
-passed-more es i = refl
-
-names-more : (t : List ℕ) (k : ℕ) → namesTo t (suc k) ≡ namesTo t k + wordAt t k 0
-unfolding namesTo
-names-more t k = refl
-
-pub entry-inside : (es : List RecordEntry) (ps : List ℕ) (n : ℕ) → EntriesFit es ps n → (i : ℕ) → i < n → passedTo es i + getD es i blank .length ≤ length ps
-entry-inside es ps n fits i h =
-    omega
-    (arith, fits .in-payloads, passed-more es i, rises (passedTo es) (λ (j : ℕ). omega (arith, passed-more es j)) (suc i) n (omega arith))
 
 module _ (k : ℕ) (es : List RecordEntry) (ps s : List ℕ) (p : ℕ) where
   pub lines-zero : written s p (linesTo k es ps 0) ≡ s
@@ -117,16 +96,6 @@ module _ (ns ps : List ℕ) (es : List RecordEntry) (t : List ℕ) where
   queue-text-is s p n q k =
       let row : List ℕ = rowLine ns t q k (countTo k es n) in
       (ap (λ (a : ℕ). cursor a (q + wordAt t k 0)) (place-on s p row (linesTo k es ps n)), buffer-on s p row (linesTo k es ps n))
-
-  pub queue-inside : (n k : ℕ) → QueuesFit ns ps es t n k → (i : ℕ) → i < k → QueueFits ns ps es t n (namesTo t i) i
-  unfolding wordsFor
-  queue-inside n zero fits i h = absurd (omega arith)
-  queue-inside n (suc k) fits i h =
-      record {
-        entries = fits .entries;
-        row-fits = omega (arith, fits .rows-fit);
-        name-fits = omega (arith, fits .names-fit, names-more t i, rises (namesTo t) (λ (j : ℕ). omega (arith, names-more t j)) (suc i) (suc k) (omega arith));
-      }
 
   module _ (c : ℕ) (s : List ℕ) (p : ℕ) where
     pub texts-zero : written s p (queuesTo ns ps es t c 0) ≡ s

@@ -3,36 +3,28 @@
 use mathlib.Core.Path.{_≡_, refl, sym, ap, ap₂, _∙_}
 use mathlib.Core.Bool.{Bool, true, false, cond, _&&_}
 use mathlib.Core.List.{List, [], _∷_, _++_, append-assoc, append-nil}
-use Prim.Native.Nat.{ℕ, zero, suc, _+_, _≤_, _<_}
+use Prim.Native.Nat.{ℕ, zero, suc, _+_, _≤_}
 use native.Mathlib.Omega.{arith}
 use lib.Dec.{eqb}
 use lib.ListN.{length, take, drop, getD, length-append}
-use lib.Seq.{take-suc, drop-drop, getD-drop}
 use borrow.Author.Tests.{eqb-true}
 use Rattle.record.specs.Record.{Item, item}
 use Rattle.queues.specs.declared.RecordEntry.{RecordEntry}
-use Rattle.queues.specs.Queues.{Queue, queue, next}
-use Rattle.queues.specs.Layout.{Memory, memory, Arrived, rowAt, queuesHeld, recordsHeld, rowsFrom, rows, nameLengths, arrivals, lengths, itemsOf, queuesFrom, meaning, nextsTrue, arranged, blank}
+use Rattle.queues.specs.Queues.{Queue, next}
+use Rattle.queues.specs.Layout.{Memory, memory, rowAt, queuesHeld, recordsHeld, rowsFrom, rows, arrivals, itemsOf, queuesFrom, meaning, nextsTrue, arranged, blank}
 use Rattle.queues.specs.Changes.{wordAt}
+use Rattle.queues.specs.Passes.{passedTo, namesTo}
 use Rattle.queues.proofs.Both.{and-left, and-right}
 use Rattle.queues.proofs.ArrangedFacts.{Arrangement, arranged-arrangement}
-use Rattle.queues.proofs.Arrivals.{items-append, arrivals-append, lengths-append}
 use Rattle.queues.proofs.SumsHeld.{queues-held}
+use Rattle.queues.proofs.Passes.{items, one, items-more, word-is, behind-row, from, here, from-next}
 use Rattle.listing.specs.Writing.{written, listed}
 use Rattle.listing.specs.Internal.{behind, Wrote}
 use Rattle.listing.specs.Listing.{queuesWord, numberLine, headLine, queueLine, recordLine, recordLines, queueLines, endLines, listing}
-use Rattle.listing.specs.Passes.{rowLine, entryLine, counted, countTo, passedTo, linesTo, namesTo, queueText, queuesTo, QueuesFit}
+use Rattle.listing.specs.Passes.{rowLine, entryLine, counted, countTo, linesTo, queueText, queuesTo}
 use Rattle.listing.proofs.Writes.{length-written, wrote, on, reads, listed-behind}
 
 -- ---- the entries of one queue
-
-passed-is : (es : List RecordEntry) (n : ℕ) → n ≤ length es → passedTo es n ≡ lengths (take n es)
-unfolding passedTo lengths
-passed-is es zero h = refl
-passed-is es (suc n) h =
-    let e : take (suc n) es ≡ take n es ++ (getD es n blank ∷ []) = take-suc es n blank (omega arith) in
-    let f : getD es n blank .length + 0 ≡ getD es n blank .length = omega arith in
-    ap₂ (λ (a b : ℕ). a + b) (passed-is es n (omega arith)) (sym f) ∙ sym (lengths-append (take n es) (getD es n blank ∷ [])) ∙ ap lengths (sym e)
 
 lines-append : (is js : List Item) → recordLines (is ++ js) ≡ recordLines is ++ recordLines js
 unfolding recordLines
@@ -40,15 +32,7 @@ lines-append [] js = refl
 lines-append (i ∷ is) js = ap (λ (l : List ℕ). recordLine i ++ l) (lines-append is js) ∙ sym (append-assoc (recordLine i) (recordLines is) (recordLines js))
 
 module _ (k : ℕ) (es : List RecordEntry) (ps : List ℕ) where
-  -- the items of the first n entries
-  abbrev items : ℕ → List Item
-  items n = itemsOf k (arrivals (take n es) ps)
-
-  -- the item of one entry, if it is of the queue
-  abbrev one : RecordEntry → ℕ → List Item
-  one e p = itemsOf k (arrivals (e ∷ []) (drop p ps))
-
-  one-line : (e : RecordEntry) (p : ℕ) → recordLines (one e p) ≡ entryLine k e (take (e .length) (drop p ps))
+  one-line : (e : RecordEntry) (p : ℕ) → recordLines (one k es ps e p) ≡ entryLine k e (take (e .length) (drop p ps))
   unfolding recordLines entryLine itemsOf arrivals
   one-line e p = on-test (eqb (e .queue) k)
     where
@@ -56,7 +40,7 @@ module _ (k : ℕ) (es : List RecordEntry) (ps : List ℕ) where
       on-test true = append-nil (recordLine (item (e .position) (take (e .length) (drop p ps))))
       on-test false = refl
 
-  one-count : (e : RecordEntry) (p n : ℕ) → n + length (one e p) ≡ counted k e n
+  one-count : (e : RecordEntry) (p n : ℕ) → n + length (one k es ps e p) ≡ counted k e n
   unfolding counted itemsOf arrivals
   one-count e p n = on-test (eqb (e .queue) k)
     where
@@ -64,94 +48,51 @@ module _ (k : ℕ) (es : List RecordEntry) (ps : List ℕ) where
       on-test true = refl
       on-test false = omega arith
 
-  items-more : (n : ℕ) → n < length es → items (suc n) ≡ items n ++ one (getD es n blank) (passedTo es n)
-  items-more n h =
-      ap (λ (l : List RecordEntry). itemsOf k (arrivals l ps)) (take-suc es n blank h)
-      ∙ ap (itemsOf k) (arrivals-append (take n es) (getD es n blank ∷ []) ps)
-      ∙ items-append k (arrivals (take n es) ps) (arrivals (getD es n blank ∷ []) (drop (lengths (take n es)) ps))
-      ∙ ap (λ (p : ℕ). items n ++ one (getD es n blank) p) (sym (passed-is es n (omega arith)))
-
-  lines-are : (n : ℕ) → n ≤ length es → recordLines (items n) ≡ linesTo k es ps n
+  lines-are : (n : ℕ) → n ≤ length es → recordLines (items k es ps n) ≡ linesTo k es ps n
   unfolding linesTo recordLines itemsOf arrivals
   lines-are zero h = refl
   lines-are (suc n) h =
-      ap recordLines (items-more n (omega arith)) ∙ lines-append (items n) (one (getD es n blank) (passedTo es n))
+      ap recordLines (items-more k es ps n (omega arith)) ∙ lines-append (items k es ps n) (one k es ps (getD es n blank) (passedTo es n))
       ∙ ap₂ (λ (a b : List ℕ). a ++ b) (lines-are n (omega arith)) (one-line (getD es n blank) (passedTo es n))
 
-  count-are : (n : ℕ) → n ≤ length es → length (items n) ≡ countTo k es n
+  count-are : (n : ℕ) → n ≤ length es → length (items k es ps n) ≡ countTo k es n
   unfolding countTo itemsOf arrivals
   count-are zero h = refl
   count-are (suc n) h =
-      ap length (items-more n (omega arith)) ∙ length-append (items n) (one (getD es n blank) (passedTo es n))
-      ∙ ap (λ (a : ℕ). a + length (one (getD es n blank) (passedTo es n))) (count-are n (omega arith))
+      ap length (items-more k es ps n (omega arith)) ∙ length-append (items k es ps n) (one k es ps (getD es n blank) (passedTo es n))
+      ∙ ap (λ (a : ℕ). a + length (one k es ps (getD es n blank) (passedTo es n))) (count-are n (omega arith))
       ∙ one-count (getD es n blank) (passedTo es n) (countTo k es n)
 
--- ---- the rows
-
--- the words of row j, and the rows after it
-word-is : (t : List ℕ) (j i : ℕ) → getD (drop (rowAt j) t) i 0 ≡ wordAt t j i
-word-is t j i = getD-drop (rowAt j) t i 0
-
-behind-row : (t : List ℕ) (j : ℕ) → drop 3 (drop (rowAt j) t) ≡ drop (rowAt (suc j)) t
-behind-row t j = let e : rowAt j + 3 ≡ rowAt (suc j) = omega arith in drop-drop 3 (rowAt j) t ∙ ap (λ (n : ℕ). drop n t) e
-
-names-are : (t : List ℕ) (j k : ℕ) → namesTo t j + nameLengths (rowsFrom k (drop (rowAt j) t)) ≡ namesTo t (j + k)
-unfolding rowsFrom nameLengths namesTo
-names-are t j zero = let e : j + 0 ≡ j = omega arith in rw e (omega arith)
-names-are t j (suc k) =
-    let e : suc j + k ≡ j + suc k = omega arith in
-    let f : namesTo t j + (getD (drop (rowAt j) t) 0 0 + nameLengths (rowsFrom k (drop 3 (drop (rowAt j) t)))) ≡ namesTo t j + (wordAt t j 0 + nameLengths (rowsFrom k (drop (rowAt (suc j)) t))) =
-    ap₂ (λ (a : ℕ) (ws : List ℕ). namesTo t j + (a + nameLengths (rowsFrom k ws))) (word-is t j 0) (behind-row t j) in
-    let g : namesTo t j + (wordAt t j 0 + nameLengths (rowsFrom k (drop (rowAt (suc j)) t))) ≡ namesTo t (suc j) + nameLengths (rowsFrom k (drop (rowAt (suc j)) t)) = omega arith in
-    f ∙ g ∙ names-are t (suc j) k ∙ ap (namesTo t) e
-
--- the queues from row j on
+-- ---- the queues from row j on
 module _ (ns ps : List ℕ) (es : List RecordEntry) (t : List ℕ) (n : ℕ) (h : n ≤ length es) where
-  abbrev came : List Arrived
-  came = arrivals (take n es) ps
-
-  abbrev from : ℕ → ℕ → List Queue
-  from j k = queuesFrom j (rowsFrom k (drop (rowAt j) t)) (drop (namesTo t j) ns) came
-
-  -- the first of them
-  abbrev here : ℕ → Queue
-  here j = queue (take (wordAt t j 0) (drop (namesTo t j) ns)) (wordAt t j 1) (itemsOf j came)
-
-  from-next : (j k : ℕ) → from j (suc k) ≡ here j ∷ from (suc j) k
-  unfolding queuesFrom rowsFrom namesTo
-  from-next j k =
-      ap₂ (λ (a b : ℕ). queue (take a (drop (namesTo t j) ns)) b (itemsOf j came) ∷ queuesFrom (suc j) (rowsFrom k (drop 3 (drop (rowAt j) t))) (drop a (drop (namesTo t j) ns)) came)
-      (word-is t j 0) (word-is t j 1)
-      ∙ ap₂ (λ (ws l : List ℕ). here j ∷ queuesFrom (suc j) (rowsFrom k ws) l came) (behind-row t j) (drop-drop (wordAt t j 0) (namesTo t j) ns)
-
-  next-here : (j k : ℕ) → nextsTrue (rowsFrom (suc k) (drop (rowAt j) t)) (from j (suc k)) ≡ true
-      → (wordAt t j 2 ≡ next (here j)) × (nextsTrue (rowsFrom k (drop (rowAt (suc j)) t)) (from (suc j) k) ≡ true)
+  next-here : (j k : ℕ) → nextsTrue (rowsFrom (suc k) (drop (rowAt j) t)) (from ns ps es t n j (suc k)) ≡ true
+      → (wordAt t j 2 ≡ next (here ns ps es t n j)) × (nextsTrue (rowsFrom k (drop (rowAt (suc j)) t)) (from ns ps es t n (suc j) k) ≡ true)
   unfolding rowsFrom nextsTrue
   next-here j k e =
-      let first : Bool = eqb (getD (drop (rowAt j) t) 2 0) (next (here j)) in
-      let others : Bool = nextsTrue (rowsFrom k (drop 3 (drop (rowAt j) t))) (from (suc j) k) in
-      let f : first && others ≡ true = rw from-next at e in (
-        sym (word-is t j 2) ∙ eqb-true (getD (drop (rowAt j) t) 2 0) (next (here j)) (and-left first others f),
-        ap (λ (ws : List ℕ). nextsTrue (rowsFrom k ws) (from (suc j) k)) (sym (behind-row t j)) ∙ and-right first others f,
+      let first : Bool = eqb (getD (drop (rowAt j) t) 2 0) (next (here ns ps es t n j)) in
+      let others : Bool = nextsTrue (rowsFrom k (drop 3 (drop (rowAt j) t))) (from ns ps es t n (suc j) k) in
+      let f : first && others ≡ true = rw (from-next ns ps es t n) at e in (
+        sym (word-is t j 2) ∙ eqb-true (getD (drop (rowAt j) t) 2 0) (next (here ns ps es t n j)) (and-left first others f),
+        ap (λ (ws : List ℕ). nextsTrue (rowsFrom k ws) (from ns ps es t n (suc j) k)) (sym (behind-row t j)) ∙ and-right first others f,
       )
 
-  text-here : (j : ℕ) → wordAt t j 2 ≡ next (here j) → queueLine (here j) ++ recordLines (here j .records) ≡ queueText ns ps es t n (namesTo t j) j
+  text-here : (j : ℕ) → wordAt t j 2 ≡ next (here ns ps es t n j) → queueLine (here ns ps es t n j) ++ recordLines (here ns ps es t n j .records) ≡ queueText ns ps es t n (namesTo t j) j
   unfolding queueLine queueText rowLine
   text-here j e =
       ap₂ (λ (a b : List ℕ). a ++ b)
       (ap₂ (λ (x c : ℕ). headLine (take (wordAt t j 0) (drop (namesTo t j) ns)) (wordAt t j 1) x c) (sym e) (count-are j es ps n h))
       (lines-are j es ps n h)
 
-  texts-are : (k j : ℕ) → nextsTrue (rowsFrom k (drop (rowAt j) t)) (from j k) ≡ true → queuesTo ns ps es t n j ++ queueLines (from j k) ≡ queuesTo ns ps es t n (j + k)
+  texts-are : (k j : ℕ) → nextsTrue (rowsFrom k (drop (rowAt j) t)) (from ns ps es t n j k) ≡ true → queuesTo ns ps es t n j ++ queueLines (from ns ps es t n j k) ≡ queuesTo ns ps es t n (j + k)
   unfolding queueLines queuesTo queuesFrom rowsFrom
   texts-are zero j e = let f : j + 0 ≡ j = omega arith in append-nil (queuesTo ns ps es t n j) ∙ ap (queuesTo ns ps es t n) (sym f)
   texts-are (suc k) j e =
       let f : suc j + k ≡ j + suc k = omega arith in
-      let both : (wordAt t j 2 ≡ next (here j)) × (nextsTrue (rowsFrom k (drop (rowAt (suc j)) t)) (from (suc j) k) ≡ true) = next-here j k e in
-      ap (λ (qs : List Queue). queuesTo ns ps es t n j ++ queueLines qs) (from-next j k)
-      ∙ ap (λ (l : List ℕ). queuesTo ns ps es t n j ++ l) (sym (append-assoc (queueLine (here j)) (recordLines (here j .records)) (queueLines (from (suc j) k))))
-      ∙ ap (λ (l : List ℕ). queuesTo ns ps es t n j ++ (l ++ queueLines (from (suc j) k))) (text-here j (both .0))
-      ∙ sym (append-assoc (queuesTo ns ps es t n j) (queueText ns ps es t n (namesTo t j) j) (queueLines (from (suc j) k)))
+      let both : (wordAt t j 2 ≡ next (here ns ps es t n j)) × (nextsTrue (rowsFrom k (drop (rowAt (suc j)) t)) (from ns ps es t n (suc j) k) ≡ true) = next-here j k e in
+      ap (λ (qs : List Queue). queuesTo ns ps es t n j ++ queueLines qs) (from-next ns ps es t n j k)
+      ∙ ap (λ (l : List ℕ). queuesTo ns ps es t n j ++ l) (sym (append-assoc (queueLine (here ns ps es t n j)) (recordLines (here ns ps es t n j .records)) (queueLines (from ns ps es t n (suc j) k))))
+      ∙ ap (λ (l : List ℕ). queuesTo ns ps es t n j ++ (l ++ queueLines (from ns ps es t n (suc j) k))) (text-here j (both .0))
+      ∙ sym (append-assoc (queuesTo ns ps es t n j) (queueText ns ps es t n (namesTo t j) j) (queueLines (from ns ps es t n (suc j) k)))
       ∙ texts-are k (suc j) (both .1)
       ∙ ap (queuesTo ns ps es t n) f
 
@@ -160,16 +101,6 @@ module _ (ns ps : List ℕ) (es : List RecordEntry) (t : List ℕ) (n : ℕ) (h 
 module _ (m : Memory) (a : arranged m ≡ true) where
   facts : Arrangement m
   facts = arranged-arrangement m a
-
-  pub queues-fit : QueuesFit (m .names) (m .payloads) (m .entries) (m .table) (recordsHeld (m .table)) (queuesHeld (m .table))
-  unfolding rows namesTo
-  queues-fit =
-      let e : 0 + queuesHeld (m .table) ≡ queuesHeld (m .table) = omega arith in
-      record {
-        entries = record { in-table = facts .records-fit; in-payloads = omega (arith, passed-is (m .entries) (recordsHeld (m .table)) (facts .records-fit), facts .payloads-sum, facts .payloads-fit) };
-        rows-fit = facts .words-fit;
-        names-fit = omega (arith, names-are (m .table) 0 (queuesHeld (m .table)) ∙ ap (namesTo (m .table)) e, facts .names-sum, facts .names-fit);
-      }
 
   texts-mean : queuesTo (m .names) (m .payloads) (m .entries) (m .table) (recordsHeld (m .table)) (queuesHeld (m .table)) ≡ queueLines (meaning m)
   unfolding meaning rows namesTo queuesTo

@@ -8,9 +8,10 @@ use lib.Dec.{eqb}
 use lib.ListN.{length, take, drop, getD}
 use Rattle.record.specs.Record.{item}
 use Rattle.queues.specs.declared.RecordEntry.{RecordEntry}
-use Rattle.queues.specs.Layout.{rowAt, wordsFor, blank}
+use Rattle.queues.specs.Layout.{blank}
 use Rattle.queues.specs.Changes.{wordAt}
 use Rattle.queues.specs.Access.{RowFits}
+use Rattle.queues.specs.Passes.{passedTo, namesTo}
 use Rattle.listing.specs.declared.Cursor.{Cursor}
 use Rattle.listing.specs.Internal.{behind, cursor}
 use Rattle.listing.specs.Listing.{headLine, recordLine}
@@ -41,20 +42,10 @@ unfoldable pub countTo : ℕ → List RecordEntry → ℕ → ℕ
 countTo k es zero = 0
 countTo k es (suc n) = counted k (getD es n blank) (countTo k es n)
 
--- the payload bytes of the first n entries
-unfoldable pub passedTo : List RecordEntry → ℕ → ℕ
-passedTo es zero = 0
-passedTo es (suc n) = passedTo es n + getD es n blank .length
-
 -- the lines of those of the first n entries that are of queue k
 unfoldable pub linesTo : ℕ → List RecordEntry → List ℕ → ℕ → List ℕ
 linesTo k es ps zero = []
 linesTo k es ps (suc n) = linesTo k es ps n ++ entryLine k (getD es n blank) (take (getD es n blank .length) (drop (passedTo es n) ps))
-
--- the name bytes of the first k rows
-unfoldable pub namesTo : List ℕ → ℕ → ℕ
-namesTo t zero = 0
-namesTo t (suc k) = namesTo t k + wordAt t k 0
 
 -- the lines of queue k, whose name stands after q bytes: its own, and those of its records among the first n entries
 unfoldable pub queueText : List ℕ → List ℕ → List RecordEntry → List ℕ → ℕ → ℕ → ℕ → List ℕ
@@ -74,22 +65,3 @@ recordsAt n p k es ps i = cursor (behind n p (length (linesTo k es ps i))) (pass
 -- the pass over the rows
 abbrev pub queuesAt : ℕ → ℕ → List ℕ → List ℕ → List RecordEntry → List ℕ → ℕ → ℕ → Cursor
 queuesAt n p ns ps es t c k = cursor (behind n p (length (queuesTo ns ps es t c k))) (namesTo t k)
-
--- ---- what the passes ask
-
--- the first n entries and their payloads stand in the lent memory
-pub record EntriesFit (es : List RecordEntry) (ps : List ℕ) (n : ℕ) : Type 0 where
-  pub in-table : n ≤ length es
-  pub in-payloads : passedTo es n ≤ length ps
-
--- row k and the name after q bytes too
-pub record QueueFits (ns ps : List ℕ) (es : List RecordEntry) (t : List ℕ) (n q k : ℕ) : Type 0 where
-  pub entries : EntriesFit es ps n
-  pub row-fits : rowAt (k + 1) ≤ length t
-  pub name-fits : q + wordAt t k 0 ≤ length ns
-
--- the first k rows and their names too
-pub record QueuesFit (ns ps : List ℕ) (es : List RecordEntry) (t : List ℕ) (n k : ℕ) : Type 0 where
-  pub entries : EntriesFit es ps n
-  pub rows-fit : wordsFor k ≤ length t
-  pub names-fit : namesTo t k ≤ length ns

@@ -2,10 +2,12 @@
 ghost use mathlib.Core.Path.{_≡_};
 ghost use Rattle.contracts.specs.Numbers.{numberOf, positionTaken, calledNumbers};
 ghost use Rattle.call_decide.specs.Request.{positionOf};
-ghost use Rattle.mrecordlog.specs.Told.{positionNamed, hasPosition, positionOr0, tellCall, replayTold, tellReplay};
+ghost use Rattle.mrecordlog.specs.Told.{positionNamed, hasPosition, positionOr0, tellCall, replayTold, tellReplay, copyTold};
+ghost use Rattle.copy_contracts.specs.Contracts.{copyNumbers};
 use crate::CallTold;
 use multi_record_log::AtPosition;
 use multi_record_log::Called;
+use multi_record_log::CopyAnswer;
 use multi_record_log::Last;
 use multi_record_log::ReplayAnswer;
 
@@ -94,6 +96,21 @@ pub fn tell_replay(answer: ReplayAnswer, lost_answers: &mut u64, resume: &mut u6
         ReplayAnswer::Refused(number) => {
             *lost_answers = 0;
             *resume = 0;
+            number_told(number)
+        }
+    }
+}
+
+pub fn tell_copy(answer: CopyAnswer, end: &mut u64) -> u64
+    ensures { λ r. ⌜ copyTold r (now (end .exit)) ≡ copyNumbers answer ⌝ }
+{
+    match answer {
+        CopyAnswer::Copied(last) => {
+            *end = last as u64;
+            0
+        }
+        CopyAnswer::Refused(number) => {
+            *end = 0;
             number_told(number)
         }
     }

@@ -62,8 +62,9 @@ use Rattle.listing.specs.Internal.{behind, cursor, Lists}
 use Rattle.listing.specs.Listing.{queuesWord, numberLine, endLines, listing}
 use Rattle.listing.specs.Claims.{LogFits}
 use Rattle.listing.specs.Passes.{queuesTo, queuesAt}
-use Rattle.listing.proofs.Counting.{queues-zero, texts-zero, queues-next, texts-next, texts-length, queue-inside}
-use Rattle.listing.proofs.Meanings.{queues-fit, list-is}
+use Rattle.listing.proofs.Counting.{queues-zero, texts-zero, queues-next, texts-next, texts-length}
+use Rattle.listing.proofs.Meanings.{list-is}
+use Rattle.queues.proofs.Passes.{queue-inside, queues-fit}
 use mathlib.Core.Path.{_∙_}
 use Rattle.mem_entries.proofs.Hold.{Hold, HoldShr}
 use Rattle.mem_entries.proofs.Loop.{tests}

@@ -44,7 +44,8 @@ use lib.ListN.{length}
 use Rattle.queues.specs.Changes.{wordAt}
 use Rattle.listing.specs.Writing.{written}
 use Rattle.listing.specs.Internal.{behind, cursor}
-use Rattle.listing.specs.Passes.{countTo, rowLine, linesTo, recordsAt, QueueFits}
+use Rattle.listing.specs.Passes.{countTo, rowLine, linesTo, recordsAt}
+use Rattle.queues.specs.Passes.{QueueFits}
 use Rattle.listing.proofs.Counting.{queue-text-is}
 use Rattle.mem_entries.proofs.Hold.{Hold, HoldShr}
 use Rattle.listing.proofs.Typed.{IsCursor}

@@ -51,8 +51,10 @@ use lib.ListN.{length, getD}
 use Rattle.queues.specs.Layout.{blank}
 use Rattle.listing.specs.Writing.{written}
 use Rattle.listing.specs.Internal.{cursor}
-use Rattle.listing.specs.Passes.{linesTo, recordsAt, EntriesFit}
-use Rattle.listing.proofs.Counting.{records-zero, lines-zero, records-next, lines-next, lines-length, entry-inside}
+use Rattle.listing.specs.Passes.{linesTo, recordsAt}
+use Rattle.queues.specs.Passes.{EntriesFit}
+use Rattle.listing.proofs.Counting.{records-zero, lines-zero, records-next, lines-next, lines-length}
+use Rattle.queues.proofs.Passes.{entry-inside}
 use Rattle.mem_entries.proofs.Hold.{Hold, HoldShr}
 use Rattle.mem_entries.proofs.Loop.{tests}
 use Rattle.listing.proofs.Typed.{IsCursor}

@@ -1,0 +1,4 @@
+pub mod Typed
+pub mod Passes
+pub mod CallRules
+pub mod Kept
