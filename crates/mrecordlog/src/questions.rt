@@ -2,7 +2,7 @@
 ghost use mathlib.Core.Path.{_≡_};
 ghost use Rattle.contracts.specs.Numbers.{positionsNumbers};
 ghost use Rattle.abi_call.specs.OnBytes.{memoryBytes};
-ghost use Rattle.multi_record_log.specs.Tables.{memoryIn};
+ghost use Rattle.abi_tables.specs.Tables.{memoryIn};
 ghost use Rattle.mrecordlog.specs.Told.{lowerOf, upperOf, rangeTold, tellRange, positionsTold, tellPositions};
 ghost use Rattle.mrecordlog.specs.Exported.{RangeExported, PositionsExported};
 use crate::answers::number_told;

@@ -1,16 +1,20 @@
-// An append's payloads, and the append.
-use crate::answers::appended;
+// An append's payloads.
+ghost use Rattle.io.specs.Counts.{Counts};
 use crate::bytes::fill;
-use crate::bytes::part;
+use crate::kinds::APPEND;
 use crate::words::has;
 use crate::words::number;
 use multi_record_log::AtPosition;
 
-fn at_position(line: &[u8]) -> AtPosition {
+pub fn at_position(line: &[u8]) -> AtPosition {
     if has(line, b"at") {
         return AtPosition::Named(number(line, b"at", 0));
     }
     AtPosition::Next
+}
+
+pub fn through(line: &[u8]) -> u64 {
+    number(line, b"through", 0)
 }
 
 // All lengths `each`, and the first `more` one above it.
@@ -44,71 +48,41 @@ fn spread(lens: &mut [u64], bytes: u64, even: bool) {
     set_first(lens, bytes);
 }
 
-fn append_run(
-    log: &mut [u8],
-    at: &mut usize,
-    scratch: &mut [u8],
-    names: &mut [u8],
-    payloads: &mut [u8],
-    entries: &mut [u8],
-    table: &mut [u8],
-    name: &[u8],
-    run: &[u8],
-    lens: &mut [u64],
-    line: &[u8],
-) {
-    let sum = number(line, b"sum", run.len() as u64);
-    spread(lens, sum, has(line, b"even"));
-    let position = at_position(line);
-    appended(
-        multi_record_log::append(
-            log,
-            at,
-            scratch,
-            names,
-            payloads,
-            entries,
-            table,
-            name,
-            position,
-            run,
-            lens,
-        ),
-        has(line, b"counts"),
-    );
+// How many bytes and payloads the line says. Another call than an append brings none.
+pub fn bytes_said(kind: u8, line: &[u8]) -> u64 {
+    if kind == APPEND {
+        number(line, b"bytes", 0)
+    } else {
+        0
+    }
 }
 
-// At most 98,304 bytes in 1,025 payloads.
-pub fn append(
-    log: &mut [u8],
-    at: &mut usize,
-    scratch: &mut [u8],
-    names: &mut [u8],
-    payloads: &mut [u8],
-    entries: &mut [u8],
-    table: &mut [u8],
-    name: &[u8],
-    line: &[u8],
-) {
-    let mut run = [0u8; 98304];
-    let mut lens = [0u64; 1025];
-    fill(&mut run, number(line, b"seed", 0));
-    let b = part(number(line, b"bytes", 0), &run);
-    let n = number(line, b"payloads", 0) as usize;
-    if 1025 < n {
-        return;
+pub fn payloads_said(kind: u8, line: &[u8]) -> u64 {
+    if kind == APPEND {
+        number(line, b"payloads", 0)
+    } else {
+        0
     }
-    append_run(
-        log,
-        at,
-        scratch,
-        names,
-        payloads,
-        entries,
-        table,
-        name,
-        &run[..b],
-        &mut lens[0..n],
-        line,
-    );
+}
+
+// The run of an append.
+pub fn fill_run(run: &mut [u8], kind: u8, line: &[u8]) {
+    if kind == APPEND {
+        fill(run, number(line, b"seed", 0));
+    }
+}
+
+// This many lengths, or all where there are fewer.
+pub fn count(n: u64, lens: &[u64]) -> usize
+    ensures { λ r. ⌜ Counts r (now (lens .entry)) ⌝ }
+{
+    let len = lens.len();
+    if n < len as u64 { n as usize } else { len }
+}
+
+// The first n lengths, of payloads that have this many bytes, or as many as the line says.
+pub fn set_sum(lens: &mut [u64], n: u64, bytes: usize, line: &[u8]) {
+    let sum = number(line, b"sum", bytes as u64);
+    let most = count(n, lens);
+    spread(&mut lens[..most], sum, has(line, b"even"));
 }

@@ -1,14 +1,27 @@
 // The calls that write.
+use crate::answers::appended;
 use crate::answers::done;
 use crate::answers::sum;
 use crate::answers::text;
 use crate::answers::truncated;
-use crate::appends::append;
-use crate::words::has;
-use crate::words::is_command;
-use crate::words::number;
+use crate::appends::at_position;
+use crate::appends::bytes_said;
+use crate::appends::count;
+use crate::appends::fill_run;
+use crate::appends::payloads_said;
+use crate::appends::set_sum;
+use crate::appends::through;
+use crate::bytes::part;
+use crate::kinds::CREATE;
+use crate::kinds::DELETE;
+use crate::kinds::TRUNCATE;
+use crate::kinds::asks_counts;
+use crate::kinds::asks_same;
+use multi_record_log::AtPosition;
+use multi_record_log::Called;
 
-fn create(
+// The call of that kind.
+fn call_of(
     log: &mut [u8],
     at: &mut usize,
     scratch: &mut [u8],
@@ -16,48 +29,21 @@ fn create(
     payloads: &mut [u8],
     entries: &mut [u8],
     table: &mut [u8],
+    kind: u8,
     name: &[u8],
-    line: &[u8],
-) {
-    done(
-        b" created ",
-        multi_record_log::create(log, at, scratch, names, payloads, entries, table, name),
-        has(line, b"counts"),
-    );
-}
-
-fn delete(
-    log: &mut [u8],
-    at: &mut usize,
-    scratch: &mut [u8],
-    names: &mut [u8],
-    payloads: &mut [u8],
-    entries: &mut [u8],
-    table: &mut [u8],
-    name: &[u8],
-    line: &[u8],
-) {
-    done(
-        b" deleted ",
-        multi_record_log::delete(log, at, scratch, names, payloads, entries, table, name),
-        has(line, b"counts"),
-    );
-}
-
-fn truncate(
-    log: &mut [u8],
-    at: &mut usize,
-    scratch: &mut [u8],
-    names: &mut [u8],
-    payloads: &mut [u8],
-    entries: &mut [u8],
-    table: &mut [u8],
-    name: &[u8],
-    line: &[u8],
-) {
-    let through = number(line, b"through", 0);
-    truncated(
-        multi_record_log::truncate(
+    through: u64,
+    at_position: AtPosition,
+    run: &[u8],
+    lens: &[u64],
+) -> Called {
+    if kind == CREATE {
+        return multi_record_log::create(log, at, scratch, names, payloads, entries, table, name);
+    }
+    if kind == DELETE {
+        return multi_record_log::delete(log, at, scratch, names, payloads, entries, table, name);
+    }
+    if kind == TRUNCATE {
+        return multi_record_log::truncate(
             log,
             at,
             scratch,
@@ -67,12 +53,36 @@ fn truncate(
             table,
             name,
             through,
-        ),
-        has(line, b"counts"),
-    );
+        );
+    }
+    multi_record_log::append(
+        log,
+        at,
+        scratch,
+        names,
+        payloads,
+        entries,
+        table,
+        name,
+        at_position,
+        run,
+        lens,
+    )
 }
 
-// Whether the line is a call; then it is done.
+fn say_called(kind: u8, answer: Called, both: bool) {
+    if kind == CREATE {
+        done(b" created ", answer, both);
+    } else if kind == DELETE {
+        done(b" deleted ", answer, both);
+    } else if kind == TRUNCATE {
+        truncated(answer, both);
+    } else {
+        appended(answer, both);
+    }
+}
+
+// The call with its payloads, at most 98,304 bytes in 1,025 of them.
 fn call(
     log: &mut [u8],
     at: &mut usize,
@@ -81,66 +91,36 @@ fn call(
     payloads: &mut [u8],
     entries: &mut [u8],
     table: &mut [u8],
+    kind: u8,
     name: &[u8],
     line: &[u8],
-) -> bool {
-    if is_command(line, b"create") {
-        create(
-            log,
-            at,
-            scratch,
-            names,
-            payloads,
-            entries,
-            table,
-            name,
-            line,
-        );
-        return true;
+) {
+    let mut run = [0u8; 98304];
+    let mut lens = [0u64; 1025];
+    fill_run(&mut run, kind, line);
+    let b = part(bytes_said(kind, line), &run);
+    let said = payloads_said(kind, line);
+    if 1025 < said {
+        return;
     }
-    if is_command(line, b"delete") {
-        delete(
-            log,
-            at,
-            scratch,
-            names,
-            payloads,
-            entries,
-            table,
-            name,
-            line,
-        );
-        return true;
-    }
-    if is_command(line, b"truncate") {
-        truncate(
-            log,
-            at,
-            scratch,
-            names,
-            payloads,
-            entries,
-            table,
-            name,
-            line,
-        );
-        return true;
-    }
-    if is_command(line, b"append") {
-        append(
-            log,
-            at,
-            scratch,
-            names,
-            payloads,
-            entries,
-            table,
-            name,
-            line,
-        );
-        return true;
-    }
-    false
+    set_sum(&mut lens, said, b, line);
+    let n = count(said, &lens);
+    let answer = call_of(
+        log,
+        at,
+        scratch,
+        names,
+        payloads,
+        entries,
+        table,
+        kind,
+        name,
+        through(line),
+        at_position(line),
+        &run[..b],
+        &lens[..n],
+    );
+    say_called(kind, answer, asks_counts(line));
 }
 
 // CRC-32 of each memory that is lent, and the write position.
@@ -154,7 +134,21 @@ struct Sums {
     table: u64,
 }
 
+fn no_sums() -> Sums {
+    Sums {
+        log: 0,
+        place: 0,
+        scratch: 0,
+        names: 0,
+        payloads: 0,
+        entries: 0,
+        table: 0,
+    }
+}
+
+// All 0 where they are not asked for.
 fn sums_of(
+    asked: bool,
     log: &[u8],
     place: usize,
     scratch: &[u8],
@@ -163,6 +157,9 @@ fn sums_of(
     entries: &[u8],
     table: &[u8],
 ) -> Sums {
+    if !asked {
+        return no_sums();
+    }
     Sums {
         log: sum(log),
         place: place,
@@ -181,8 +178,8 @@ fn same(a: Sums, b: Sums) -> bool {
     a.names == b.names && a.payloads == b.payloads && a.entries == b.entries && a.table == b.table
 }
 
-fn show_same(is_call: bool, old: Sums, new: Sums) {
-    if is_call {
+fn show_same(asked: bool, old: Sums, new: Sums) {
+    if asked {
         if same(old, new) {
             text(b" same");
         }
@@ -190,7 +187,7 @@ fn show_same(is_call: bool, old: Sums, new: Sums) {
 }
 
 // The same, and with the word `same` whether all that is lent is left as it was.
-pub fn try_call(
+pub fn do_call(
     log: &mut [u8],
     at: &mut usize,
     scratch: &mut [u8],
@@ -198,24 +195,13 @@ pub fn try_call(
     payloads: &mut [u8],
     entries: &mut [u8],
     table: &mut [u8],
+    kind: u8,
     name: &[u8],
     line: &[u8],
-) -> bool {
-    if !has(line, b"same") {
-        return call(
-            log,
-            at,
-            scratch,
-            names,
-            payloads,
-            entries,
-            table,
-            name,
-            line,
-        );
-    }
-    let old = sums_of(log, *at, scratch, names, payloads, entries, table);
-    let is_call = call(
+) {
+    let asked = asks_same(line);
+    let old = sums_of(asked, log, *at, scratch, names, payloads, entries, table);
+    call(
         log,
         at,
         scratch,
@@ -223,10 +209,10 @@ pub fn try_call(
         payloads,
         entries,
         table,
+        kind,
         name,
         line,
     );
-    let new = sums_of(log, *at, scratch, names, payloads, entries, table);
-    show_same(is_call, old, new);
-    is_call
+    let new = sums_of(asked, log, *at, scratch, names, payloads, entries, table);
+    show_same(asked, old, new);
 }

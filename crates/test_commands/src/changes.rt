@@ -1,9 +1,11 @@
 // What a case starts from, and the log changed.
 use crate::bytes::fill;
-use crate::words::is_command;
+use crate::kinds::CUT;
+use crate::kinds::PUT;
+use crate::kinds::XOR;
 use crate::words::number;
 
-fn start(log: &mut [u8], at: &mut usize, table: &mut [u8]) {
+pub fn start(log: &mut [u8], at: &mut usize, table: &mut [u8]) {
     let log_len = log.len();
     let table_len = table.len();
     slices::zero_at(log, 0, log_len);
@@ -11,7 +13,7 @@ fn start(log: &mut [u8], at: &mut usize, table: &mut [u8]) {
     *at = 0;
 }
 
-fn stain(s: &mut [u8]) {
+pub fn stain(s: &mut [u8]) {
     let mut i = 0;
     while i < s.len() {
         s[i] = 170;
@@ -19,37 +21,10 @@ fn stain(s: &mut [u8]) {
     }
 }
 
-fn set_queues(table: &mut [u8], n: u64) {
+pub fn set_queues(table: &mut [u8], line: &[u8]) {
     if 8 <= table.len() {
-        fields::put_u64(table, 0, n);
+        fields::put_u64(table, 0, number(line, b"queues", 0));
     }
-}
-
-// Whether the line sets what a case starts from; then it is set.
-pub fn set(
-    log: &mut [u8],
-    at: &mut usize,
-    scratch: &mut [u8],
-    table: &mut [u8],
-    line: &[u8],
-) -> bool {
-    if is_command(line, b"start") {
-        start(log, at, table);
-        return true;
-    }
-    if is_command(line, b"stain") {
-        stain(scratch);
-        return true;
-    }
-    if is_command(line, b"move") {
-        *at = number(line, b"at", 0) as usize;
-        return true;
-    }
-    if is_command(line, b"set") {
-        set_queues(table, number(line, b"queues", 0));
-        return true;
-    }
-    false
 }
 
 fn xor(log: &mut [u8], at: u64, by: u64) {
@@ -87,32 +62,32 @@ fn put_run(log: &mut [u8], at: usize, len: usize, seed: u64) {
     fill(&mut log[at..end], seed);
 }
 
-fn place(line: &[u8]) -> usize {
+pub fn place(line: &[u8]) -> usize {
     number(line, b"at", 0) as usize
 }
 
-// Whether the line changes the log; then it is changed.
-pub fn change(log: &mut [u8], bytes: &[u8], line: &[u8]) -> bool {
-    if is_command(line, b"xor") {
-        xor(log, number(line, b"at", 0), number(line, b"by", 0));
-        return true;
+fn said_by(line: &[u8]) -> u64 {
+    number(line, b"by", 0)
+}
+
+fn said_bytes(line: &[u8]) -> usize {
+    number(line, b"bytes", 0) as usize
+}
+
+fn said_seed(line: &[u8]) -> u64 {
+    number(line, b"seed", 0)
+}
+
+// The log changed in that way.
+pub fn change(log: &mut [u8], kind: u8, bytes: &[u8], line: &[u8]) {
+    let at = place(line);
+    if kind == XOR {
+        xor(log, at as u64, said_by(line));
+    } else if kind == CUT {
+        cut(log, at);
+    } else if kind == PUT {
+        put(log, at, bytes);
+    } else {
+        put_run(log, at, said_bytes(line), said_seed(line));
     }
-    if is_command(line, b"cut") {
-        cut(log, place(line));
-        return true;
-    }
-    if is_command(line, b"put") {
-        put(log, place(line), bytes);
-        return true;
-    }
-    if is_command(line, b"fill") {
-        put_run(
-            log,
-            place(line),
-            number(line, b"bytes", 0) as usize,
-            number(line, b"seed", 0),
-        );
-        return true;
-    }
-    false
 }

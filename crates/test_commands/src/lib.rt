@@ -27,6 +27,7 @@ mod appends;
 mod bytes;
 mod calls;
 mod changes;
+mod kinds;
 mod lines;
 mod questions;
 mod reads;

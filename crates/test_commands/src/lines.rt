@@ -4,9 +4,22 @@ ghost use lib.ListN.{length};
 use crate::answers::text;
 use crate::bytes::named;
 use crate::bytes::part;
-use crate::calls::try_call;
+use crate::calls::do_call;
 use crate::changes::change;
-use crate::changes::set;
+use crate::changes::place;
+use crate::changes::set_queues;
+use crate::changes::stain;
+use crate::changes::start;
+use crate::kinds::APPEND;
+use crate::kinds::CREATE;
+use crate::kinds::FILL;
+use crate::kinds::MOVE;
+use crate::kinds::QUEUES;
+use crate::kinds::READS;
+use crate::kinds::SET;
+use crate::kinds::STAIN;
+use crate::kinds::START;
+use crate::kinds::kind_of;
 use crate::questions::ask;
 use crate::replays::look;
 use crate::shows::print;
@@ -58,22 +71,24 @@ fn lend(line: &[u8], lent: Lent) -> Lent {
     lent
 }
 
-// Whether the line sets, changes or shows something; then that is done.
-fn do_simple(
+// What a case starts from is set.
+fn set(
     log: &mut [u8],
     at: &mut usize,
     scratch: &mut [u8],
     table: &mut [u8],
-    bytes: &[u8],
+    kind: u8,
     line: &[u8],
-) -> bool {
-    if set(log, at, scratch, table, line) {
-        return true;
+) {
+    if kind == START {
+        start(log, at, table);
+    } else if kind == STAIN {
+        stain(scratch);
+    } else if kind == MOVE {
+        *at = place(line);
+    } else {
+        set_queues(table, line);
     }
-    if change(log, bytes, line) {
-        return true;
-    }
-    show(log, *at, scratch, table, line)
 }
 
 // Text, or what is lent. An unknown command is printed.
@@ -88,8 +103,29 @@ fn do_text(line: &[u8]) {
     text(line);
 }
 
-// A command that is no call.
-fn do_other(
+// Sets, changes or shows something, by kind.
+fn do_simple(
+    log: &mut [u8],
+    at: &mut usize,
+    scratch: &mut [u8],
+    table: &mut [u8],
+    kind: u8,
+    bytes: &[u8],
+    line: &[u8],
+) {
+    if kind < START {
+        do_text(line);
+    } else if kind <= SET {
+        set(log, at, scratch, table, kind, line);
+    } else if kind <= FILL {
+        change(log, kind, bytes, line);
+    } else {
+        show(log, *at, scratch, table, kind);
+    }
+}
+
+// A command by its kind.
+fn do_kind(
     log: &mut [u8],
     at: &mut usize,
     scratch: &mut [u8],
@@ -97,19 +133,34 @@ fn do_other(
     payloads: &mut [u8],
     entries: &mut [u8],
     table: &mut [u8],
+    kind: u8,
     name: &[u8],
     line: &[u8],
 ) {
-    if ask(names, payloads, entries, table, name, line) {
+    if kind < CREATE || READS < kind {
+        do_simple(log, at, scratch, table, kind, name, line);
         return;
     }
-    if look(log, at, scratch, names, payloads, entries, table, line) {
+    if kind <= APPEND {
+        do_call(
+            log,
+            at,
+            scratch,
+            names,
+            payloads,
+            entries,
+            table,
+            kind,
+            name,
+            line,
+        );
         return;
     }
-    if do_simple(log, at, scratch, table, name, line) {
+    if kind <= QUEUES {
+        ask(names, payloads, entries, table, kind, name, line);
         return;
     }
-    do_text(line);
+    look(log, at, scratch, names, payloads, entries, table, kind);
 }
 
 fn do_command(
@@ -125,7 +176,7 @@ fn do_command(
     let mut bytes = [0u8; 65536];
     let count = named(line, &mut bytes);
     let n = part(count as u64, &bytes);
-    if try_call(
+    do_kind(
         log,
         at,
         scratch,
@@ -133,19 +184,7 @@ fn do_command(
         payloads,
         entries,
         table,
-        &bytes[..n],
-        line,
-    ) {
-        return;
-    }
-    do_other(
-        log,
-        at,
-        scratch,
-        names,
-        payloads,
-        entries,
-        table,
+        kind_of(line),
         &bytes[..n],
         line,
     );
@@ -181,33 +220,6 @@ fn do_lent(
     );
 }
 
-// Does a line, and answers what is lent after it.
-fn do_line(
-    log: &mut [u8; 98304],
-    at: &mut usize,
-    scratch: &mut [u8; 98304],
-    names: &mut [u8; 32768],
-    payloads: &mut [u8; 98304],
-    entries: &mut [u8; 48000],
-    table: &mut [u8; 2000],
-    line: &[u8],
-    lent: Lent,
-) -> Lent {
-    let here = lend(line, lent);
-    do_lent(
-        log,
-        at,
-        scratch,
-        names,
-        payloads,
-        entries,
-        table,
-        line,
-        lent_by(line, here),
-    );
-    here
-}
-
 // Where the line after the one at a place stands.
 fn next_line(list: &[u8], from: usize) -> usize
     requires { ⌜ from < length (now list) ⌝ }
@@ -221,7 +233,7 @@ fn next_line(list: &[u8], from: usize) -> usize
     }
 }
 
-// Does the line at a place of the text.
+// Does the line at a place of the text, and answers what is lent after it.
 fn do_line_at(
     log: &mut [u8; 98304],
     at: &mut usize,
@@ -237,7 +249,10 @@ fn do_line_at(
     requires { ⌜ from < length (now list) ⌝ }
 {
     let end = place_of(list, from, b'\n');
-    do_line(
+    let line = &list[from..end];
+    let here = lend(line, lent);
+    let lent_here = lent_by(line, here);
+    do_lent(
         log,
         at,
         scratch,
@@ -245,9 +260,10 @@ fn do_line_at(
         payloads,
         entries,
         table,
-        &list[from..end],
-        lent,
-    )
+        line,
+        lent_here,
+    );
+    here
 }
 
 fn run_lines(

@@ -5,8 +5,10 @@ use crate::answers::say_bytes;
 use crate::answers::say_record;
 use crate::answers::text;
 use crate::bytes::table_word;
+use crate::kinds::FIRST;
+use crate::kinds::POSITIONS;
+use crate::kinds::RANGES;
 use crate::words::has;
-use crate::words::is_command;
 use crate::words::number;
 use multi_record_log::Lower;
 use multi_record_log::QuestionAnswer;
@@ -224,30 +226,23 @@ pub fn show_queues(names: &[u8], payloads: &[u8], entries: &[u8], table: &[u8]) 
     }
 }
 
-// Whether the line is a question; then it is asked.
+// The question of that kind.
 pub fn ask(
     names: &[u8],
     payloads: &[u8],
     entries: &[u8],
     table: &[u8],
+    kind: u8,
     name: &[u8],
     line: &[u8],
-) -> bool {
-    if is_command(line, b"positions") {
+) {
+    if kind == POSITIONS {
         positions(names, payloads, entries, table, name);
-        return true;
-    }
-    if is_command(line, b"first") {
+    } else if kind == FIRST {
         first(names, payloads, entries, table, name, line);
-        return true;
-    }
-    if is_command(line, b"ranges") {
+    } else if kind == RANGES {
         ranges(names, payloads, entries, table, name, line);
-        return true;
-    }
-    if is_command(line, b"queues") {
+    } else {
         show_queues(names, payloads, entries, table);
-        return true;
     }
-    false
 }

@@ -2,9 +2,10 @@
 use crate::answers::replayed;
 use crate::answers::text;
 use crate::bytes::table_word;
+use crate::kinds::READS;
+use crate::kinds::REOPEN;
 use crate::questions::show_queues;
 use crate::reads::show_reads;
-use crate::words::is_command;
 use multi_record_log::ReplayAnswer;
 
 // Replay; writing goes on where it resumes.
@@ -25,22 +26,21 @@ fn replay(
     *at = resumed;
 }
 
-fn reopen(
-    log: &[u8],
-    at: &mut usize,
-    scratch: &mut [u8],
-    names: &mut [u8],
-    payloads: &mut [u8],
-    entries: &mut [u8],
-    table: &mut [u8],
-) {
-    text(b"replay");
-    replay(log, at, scratch, names, payloads, entries, table);
-    text(b"\n");
-    show_queues(names, payloads, entries, table);
+// A replay with its word and all queues.
+fn before_replay(kind: u8) {
+    if kind == REOPEN {
+        text(b"replay");
+    }
 }
 
-// Whether the line is a replay or reads; then it is done.
+fn after_replay(kind: u8, names: &[u8], payloads: &[u8], entries: &[u8], table: &[u8]) {
+    if kind == REOPEN {
+        text(b"\n");
+        show_queues(names, payloads, entries, table);
+    }
+}
+
+// The replay, or all reads.
 pub fn look(
     log: &[u8],
     at: &mut usize,
@@ -49,19 +49,13 @@ pub fn look(
     payloads: &mut [u8],
     entries: &mut [u8],
     table: &mut [u8],
-    line: &[u8],
-) -> bool {
-    if is_command(line, b"replay") {
-        replay(log, at, scratch, names, payloads, entries, table);
-        return true;
-    }
-    if is_command(line, b"reopen") {
-        reopen(log, at, scratch, names, payloads, entries, table);
-        return true;
-    }
-    if is_command(line, b"reads") {
+    kind: u8,
+) {
+    if kind == READS {
         show_reads(log, scratch);
-        return true;
+        return;
     }
-    false
+    before_replay(kind);
+    replay(log, at, scratch, names, payloads, entries, table);
+    after_replay(kind, names, payloads, entries, table);
 }

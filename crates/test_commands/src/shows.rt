@@ -3,6 +3,9 @@ use crate::answers::say;
 use crate::answers::say_crc;
 use crate::answers::text;
 use crate::bytes::table_word;
+use crate::kinds::HELD;
+use crate::kinds::PLACE;
+use crate::kinds::SCRATCH;
 use crate::words::first;
 use crate::words::is_command;
 
@@ -33,25 +36,21 @@ fn show_held(table: &[u8]) {
     say(b" name bytes ", table_word(table, 1));
 }
 
-// Whether the line shows what a case left; then it is shown.
-pub fn show(log: &[u8], place: usize, scratch: &[u8], table: &[u8], line: &[u8]) -> bool {
-    if is_command(line, b"place") {
-        say(b" place ", place as u64);
-        return true;
-    }
-    if is_command(line, b"held") {
+fn show_place(place: usize) {
+    say(b" place ", place as u64);
+}
+
+// What a case left, of that kind.
+pub fn show(log: &[u8], place: usize, scratch: &[u8], table: &[u8], kind: u8) {
+    if kind == PLACE {
+        show_place(place);
+    } else if kind == HELD {
         show_held(table);
-        return true;
-    }
-    if is_command(line, b"scratch") {
+    } else if kind == SCRATCH {
         show_zero(scratch);
-        return true;
-    }
-    if is_command(line, b"log") {
+    } else {
         show_log(log);
-        return true;
     }
-    false
 }
 
 // What stands after the command.

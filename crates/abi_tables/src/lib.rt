@@ -1,0 +1,10 @@
+// The call, the question, the copy and replay with both tables lent as bytes of any length. docs/LAYOUT.md says how the tables stand in them.
+mod copying;
+mod questions;
+mod replaying;
+mod writing;
+
+pub use copying::copy;
+pub use questions::question;
+pub use replaying::replay;
+pub use writing::call;
