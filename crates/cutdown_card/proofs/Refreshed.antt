@@ -5,7 +5,7 @@ use mathlib.Core.Bool.{Bool, true, false, cond}
 use mathlib.Core.List.{List, [], _∷_, _++_, map}
 use Prim.Native.Nat.{ℕ, _*_, _≤_}
 use native.Mathlib.Omega.{arith}
-use lib.ListN.{length, take, drop, length-replicate}
+use lib.ListN.{length, take, drop, length-append, length-replicate}
 use lib.Seq.{take-at}
 use Rattle.slices.specs.Bytes.{Bytes, zeros}
 use Rattle.slices.specs.Put.{put}
@@ -29,7 +29,7 @@ use Rattle.readout_text.proofs.Sizes.{just-sized}
 use Rattle.cutdown_card.specs.declared.Cutdown.{Cutdown}
 use Rattle.cutdown_card.specs.declared.Cutdown.the-variants.{Written, Refused, NoRoom}
 use Rattle.cutdown_card.specs.Cutdown.{Cut, cutRefused, cutTo, lentFor, cutBy, cutInto, blankCard, cutDown, freshCard, shortFor, answeredBy, cutAnswer, writtenBy, cutLeft, CutTyped, CutKept}
-use Rattle.cutdown_card.specs.Claims.{Refreshed, CutdownRefreshes}
+use Rattle.cutdown_card.specs.Claims.{Refreshed, CutdownRefreshes, CutdownInside}
 use Rattle.cutdown_card.proofs.Sizes.{put-first, fresh-is, fresh-long, was-sized, was-done, sized-is, sized-long}
 
 -- nothing is lost where records alone are given
@@ -112,7 +112,7 @@ module _ (card : List ℕ) (qs : List Queue) (b : Bytes card) (t : QueuesTyped q
 
 -- ---- from the contract
 
-module _ (card out out′ : List ℕ) (n : ℕ) (b : Bytes card) (w : CutKept card out (Written n) out′) where
+module _ (card out out′ : List ℕ) (n : ℕ) (w : CutKept card out (Written n) out′) where
   short-by : (x : Bool) → shortFor card (length out) ≡ x → Written n ≡ cond x NoRoom (answeredBy (blocks card * 32768) (cutDown card)) → shortFor card (length out) ≡ false
   short-by true e h = never (cc)
   short-by false e h = e
@@ -129,16 +129,43 @@ module _ (card out out′ : List ℕ) (n : ℕ) (b : Bytes card) (w : CutKept ca
   unfolding cutLeft
   left-is = w .buffer-left ∙ ap (λ (x : Bool). cond x out (writtenBy card out (cutDown card))) had-room
 
-  on-cut : (c : Cut) → cutDown card ≡ c → Refreshed card (take n out′)
+  -- the fresh card is what is answered, and stands at the start of what is left
+  pub record Stands (qs : List Queue) : Type 0 where
+    pub down : cutDown card ≡ cutTo qs
+    pub typed : QueuesTyped qs
+    pub long : length (freshCard card qs) ≡ n
+    pub left : out′ ≡ freshCard card qs ++ drop (length (freshCard card qs)) out
+
+  stands-on : (qs : List Queue) → cutDown card ≡ cutTo qs → Stands qs
   unfolding answeredBy writtenBy
-  on-cut (cutRefused k) d = let e : Written n ≡ Refused k = answer-is ∙ ap (answeredBy (blocks card * 32768)) d in never (cc)
-  on-cut (cutTo qs) d =
+  stands-on qs d =
       let e : Written n ≡ Written (blocks card * 32768) = answer-is ∙ ap (answeredBy (blocks card * 32768)) d in
       let f : n ≡ blocks card * 32768 = cc in
-      let t : QueuesTyped qs = subst CutTyped d (w .typed had-room) in
-      let o : out′ ≡ put out 0 (freshCard card qs) = left-is ∙ ap (writtenBy card out) d in
-      let l : length (freshCard card qs) ≡ n = fresh-long card qs readoutScratch (was-done card qs d .taken) ∙ sym f in
-      subst (Refreshed card) (sym (ap (take n) (o ∙ put-first out (freshCard card qs)) ∙ take-at (freshCard card qs) (drop (length (freshCard card qs)) out) n l)) (refreshed card qs b t d)
+      record {
+        down = d;
+        typed = subst CutTyped d (w .typed had-room);
+        long = fresh-long card qs readoutScratch (was-done card qs d .taken) ∙ sym f;
+        left = left-is ∙ ap (writtenBy card out) d ∙ put-first out (freshCard card qs);
+      }
+
+  stands-by : {A : Type 0} → ((qs : List Queue) → Stands qs → A) → (c : Cut) → cutDown card ≡ c → A
+  unfolding answeredBy
+  stands-by go (cutRefused k) d = let e : Written n ≡ Refused k = answer-is ∙ ap (answeredBy (blocks card * 32768)) d in never (cc)
+  stands-by go (cutTo qs) d = go qs (stands-on qs d)
 
 pub cutdown-refreshes : CutdownRefreshes
-cutdown-refreshes card out out′ n b w = on-cut card out out′ n b w (cutDown card) refl
+cutdown-refreshes card out out′ n b w = stands-by card out out′ n w go (cutDown card) refl
+  where
+    go : (qs : List Queue) → Stands card out out′ n w qs → Refreshed card (take n out′)
+    go qs s =
+        subst (Refreshed card) (sym (ap (take n) (s .left) ∙ take-at (freshCard card qs) (drop (length (freshCard card qs)) out) n (s .long)))
+        (refreshed card qs b (s .typed) (s .down))
+
+inside : (card out out′ : List ℕ) (n : ℕ) → CutKept card out (Written n) out′ → n ≤ length out′
+inside card out out′ n w = stands-by card out out′ n w go (cutDown card) refl
+  where
+    go : (qs : List Queue) → Stands card out out′ n w qs → n ≤ length out′
+    go qs s = omega (arith, s .long, ap length (s .left), length-append (freshCard card qs) (drop (length (freshCard card qs)) out))
+
+pub cutdown-inside : CutdownInside
+cutdown-inside card out out′ r n e w = inside card out out′ n (subst (λ (x : Cutdown). CutKept card out x out′) e w)

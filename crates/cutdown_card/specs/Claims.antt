@@ -13,6 +13,7 @@ use Rattle.queues.specs.Queues.{Queue}
 use Rattle.calls.specs.Replay.{left, replayOf}
 use Rattle.listing.specs.Listing.{listing}
 use Rattle.readout_text.specs.Card.{readoutScratch, readoutRoom, cardText}
+use Rattle.cutdown_card.specs.declared.Cutdown.{Cutdown}
 use Rattle.cutdown_card.specs.declared.Cutdown.the-variants.{Written}
 use Rattle.cutdown_card.specs.Cutdown.{cutTo, cutDown, freshCard, shortFor, CutKept}
 
@@ -34,3 +35,7 @@ CutdownRefreshes = (card out out′ : List ℕ) (n : ℕ) → Bytes card → Cut
 -- a buffer of 65,536 bytes is never too short
 abbrev pub CutdownHasRoom : Type 0
 CutdownHasRoom = (card : List ℕ) (room : ℕ) → 65536 ≤ room → shortFor card room ≡ false
+
+-- what is answered lies in the buffer that is left
+abbrev pub CutdownInside : Type 0
+CutdownInside = (card out out′ : List ℕ) (r : Cutdown) (n : ℕ) → r ≡ Written n → CutKept card out r out′ → n ≤ length out′
