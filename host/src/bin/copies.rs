@@ -1,6 +1,6 @@
 //! A log cut down to what is held (02, Ticket 1): copies of the queues that random lists of calls left. What 02 asks of the target, the answer, the scratch and the
 //! refusals is worked out from the plain machine's queues; the port answers by its exported entries, and the Rust opens each copy.
-//! Arguments: `--copies NUMBER` (10,000), `--seed NUMBER` (1).
+//! Arguments: `--copies NUMBER` (10,000, refused ones not counted), `--seed NUMBER` (1).
 
 use std::time::Instant;
 
@@ -68,7 +68,6 @@ fn copy(target: &[u8], scratch: &[u8], memory: &Memory, tally: &mut Tally) -> Re
     let (mut target_left, mut scratch_left, memory_left) = (target.to_vec(), scratch.to_vec(), memory.clone());
     let answer = number(port::copy(&mut target_left, &mut scratch_left, &memory_left));
     memory_unchanged(&memory_left, memory)?;
-    tally.count("copies");
     if let Some(refusal) = refusal(target.len(), arranged, scratch.len(), &records) {
         tally.count(match refusal {
             1 => "refused 1",
@@ -85,7 +84,6 @@ fn copy(target: &[u8], scratch: &[u8], memory: &Memory, tally: &mut Tally) -> Re
     same("answer", &answer, &Ok(end as u64))?;
     same_bytes("target", &target_left, &written(target, &records))?;
     zero("scratch", &scratch_left)?;
-    tally.count("taken");
     if end > 0 && frames::padded(end) != end {
         tally.count("ends that leave under 7 bytes");
     }
@@ -100,6 +98,7 @@ fn other(random: &mut Random, memory: &Memory) -> Memory {
 
 /// A copy that was taken: the Rust has the same queues, replay gives them, their copy has the same bytes, and writing goes on at its end.
 fn taken(log: &[u8], end: usize, scratch: usize, queues: &Queues, memory: &Memory, random: &mut Random, folder: &Folder, tally: &mut Tally) -> Checked {
+    tally.count("copies");
     let whole = log.len() / BLOCK * BLOCK;
     folder.fill(&log[..whole]);
     let rust = Oracle::open(folder).ok_or("the Rust does not open the copy")?;
@@ -116,6 +115,7 @@ fn taken(log: &[u8], end: usize, scratch: usize, queues: &Queues, memory: &Memor
     means("queues of replay", &again, queues)?;
     let garbage = random.bytes(log.len());
     let Some((second, second_end)) = copy(&garbage, &random.bytes(scratch), &again, tally)? else { return Err("the copy of a replayed copy is refused".to_string()) };
+    tally.count("copies of replayed copies");
     same("end of the copy of a replayed copy", &second_end, &end)?;
     same_bytes("the copy of a replayed copy", &second[..whole], &log[..whole])?;
 
@@ -216,7 +216,7 @@ fn main() {
     let mut tally = Tally::default();
     let started = Instant::now();
     let mut checked = largest(&mut random, &mut tally);
-    while checked.is_ok() && tally.counts.get("taken").copied().unwrap_or(0) < count {
+    while checked.is_ok() && tally.counts.get("copies").copied().unwrap_or(0) < count {
         let list = cases::list(&mut random);
         checked = run(&list, &mut random, &folder, &mut tally).map_err(|difference| format!("{difference}\n  case: {}", host::compare::shrink::list_text(&list)));
     }
