@@ -53,6 +53,14 @@ fn memory_sum(names: &[u8], payloads: &[u8], entries: &[u8], table: &[u8]) -> u3
     crc32::update_all(c, table)
 }
 
+fn tell_memory(before: u32, after: u32) {
+    if before == after {
+        text(b", queues stay\n");
+    } else {
+        text(b", queues changed\n");
+    }
+}
+
 fn copy_into(
     target: &mut [u8],
     scratch: &mut [u8],
@@ -61,15 +69,9 @@ fn copy_into(
     entries: &[u8],
     table: &[u8],
 ) {
-    let before = memory_sum(names, payloads, entries, table);
     tell_copy(multi_record_log::copy(target, scratch, names, payloads, entries, table));
     tell_target(target);
     sum(b", scratch ", scratch);
-    if before == memory_sum(names, payloads, entries, table) {
-        text(b", queues stay\n");
-    } else {
-        text(b", queues changed\n");
-    }
 }
 
 // A copy into the first bytes of a target and of a scratch.
@@ -109,6 +111,7 @@ fn copy_sized(
 ) {
     let mut target = [238u8; 196607];
     let mut scratch = [90u8; 131072];
+    let before = memory_sum(names, payloads, entries, table);
     copy_within(
         &mut target,
         &mut scratch,
@@ -119,6 +122,7 @@ fn copy_sized(
         entries,
         table,
     );
+    tell_memory(before, memory_sum(names, payloads, entries, table));
 }
 
 fn replay_log(
@@ -156,6 +160,17 @@ fn length(low: u8, middle: u8, high: u8) -> usize {
     low as usize + 256 * (middle as usize) + 65536 * (high as usize)
 }
 
+// The number of three bytes at a place, 0 where there are none.
+fn number_at(head: &[u8], at: usize) -> usize {
+    if head.len() < 3 {
+        return 0;
+    }
+    if head.len() - 3 < at {
+        return 0;
+    }
+    length(head[at], head[at + 1], head[at + 2])
+}
+
 // The stored bytes of a log, zeros after them, and the copy.
 fn copy_stored(
     log: &mut [u8],
@@ -177,16 +192,16 @@ fn copy_stored(
     true
 }
 
-fn copy_case(head: [u8; 48]) -> bool {
+fn copy_case(head: &[u8], value: u8) -> bool {
     let mut log = [0u8; 131072];
     copy_stored(
         &mut log,
-        length(head[32], head[33], head[34]),
-        length(head[35], head[36], head[37]),
-        length(head[38], head[39], head[40]),
-        length(head[41], head[42], head[43]),
-        length(head[44], head[45], head[46]),
-        head[47],
+        number_at(head, 32),
+        number_at(head, 35),
+        number_at(head, 38),
+        number_at(head, 41),
+        number_at(head, 44),
+        value,
     )
 }
 
@@ -203,7 +218,8 @@ fn next_case() -> bool {
         return false;
     }
     title(&head);
-    copy_case(head)
+    let value = head[47];
+    copy_case(&head, value)
 }
 
 fn main() {
