@@ -26,6 +26,9 @@ extern "C" {
     fn mrecordlog_replay(log: *const u8, log_len: usize, scratch: *mut u8, scratch_len: usize,
         names: *mut u8, names_len: usize, payloads: *mut u8, payloads_len: usize, entries: *mut u8, entries_len: usize, table: *mut u8, table_len: usize,
         lost: *mut u64, resumed: *mut u64) -> u64;
+    fn mrecordlog_copy(target: *mut u8, target_len: usize, scratch: *mut u8, scratch_len: usize,
+        names: *const u8, names_len: usize, payloads: *const u8, payloads_len: usize, entries: *const u8, entries_len: usize, table: *const u8, table_len: usize,
+        end: *mut u64) -> u64;
     fn mrecordlog_read(log: *const u8, log_len: usize, scratch: *mut u8, scratch_len: usize, block: *mut usize, cursor: *mut usize, spoilt: *mut u64,
         kind: *mut u64, position: *mut u64, name_start: *mut u64, name_len: *mut u64, items_start: *mut u64, items_len: *mut u64) -> u64;
     fn mrecordlog_checksum(frame_type: u8, data: *const u8, data_len: usize) -> u32;
@@ -199,6 +202,22 @@ pub fn replay(log: &[u8], scratch: &mut [u8], memory: &mut Memory) -> Result<(u6
     };
     refused(number, &[lost, resumed])?;
     Ok((lost, resumed))
+}
+
+/// What the queue memory holds, copied into a target; where the last frame ends, or 0.
+pub fn copy(target: &mut [u8], scratch: &mut [u8], memory: &Memory) -> Result<u64, Refused> {
+    let mut end = UNSET;
+    let Memory { names, payloads, entries, table } = memory;
+    // Safety: each slice is given by its own pointer and length, and none overlaps another.
+    #[rustfmt::skip]
+    let number = unsafe {
+        mrecordlog_copy(
+            target.as_mut_ptr(), target.len(), scratch.as_mut_ptr(), scratch.len(), names.as_ptr(), names.len(), payloads.as_ptr(), payloads.len(),
+            entries.as_ptr(), entries.len(), table.as_ptr(), table.len(), &mut end,
+        )
+    };
+    refused(number, &[end])?;
+    Ok(end)
 }
 
 /// All that a call is lent.

@@ -20,7 +20,7 @@ use Rattle.contracts.specs.Demands.{Gives}
 use Rattle.cut_calls.specs.CutRecord.{machineFrom}
 use Rattle.cut_contracts.specs.Claims.{Since}
 use Rattle.copy_records.specs.Copy.{copyRecords, copyEncoded, anyLonger}
-use Rattle.copy_records.specs.Claims.{copiedMachine}
+use Rattle.copy_records.specs.Machine.{copiedMachine}
 use Rattle.copy_contracts.specs.Contracts.{CopyKept}
 
 -- a copy that was not refused, and where it ended

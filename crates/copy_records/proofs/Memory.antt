@@ -18,7 +18,8 @@ use Rattle.queues.proofs.SumsHeld.{sums-mean}
 use Rattle.calls.specs.Claims.{queuesArranged}
 use Rattle.calls.proofs.Arranged.{arrangement-arranged}
 use Rattle.copy_records.specs.Copy.{lentOf}
-use Rattle.copy_records.specs.Claims.{ItemsTyped, QueuesTyped, MemoryArranged, MemoryTyped, MemoryCopyReplays, MemoryCopiesEqual}
+use Rattle.copy_records.specs.Typed.{ItemsTyped, QueuesTyped}
+use Rattle.copy_records.specs.Claims.{MemoryArranged, MemoryTyped, MemoryCopyReplays, MemoryCopiesEqual}
 use Rattle.copy_records.proofs.Left.{copy-passed, states-copy-replays, states-copies-equal}
 
 -- ---- room for the queues held

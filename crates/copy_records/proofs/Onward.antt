@@ -24,7 +24,9 @@ use Rattle.calls.proofs.Steps.{Stepped, step-by}
 use Rattle.cut_calls.specs.CutRecord.{machineFrom}
 use Rattle.cut_calls.specs.Claims.{StatesSince, none, call}
 use Rattle.copy_records.specs.Copy.{copyRecords, copyEnd, CopyLent, copyRefusal}
-use Rattle.copy_records.specs.Claims.{QueuesTyped, stateCopied, listedFrom, copiedMachine, CopyListed, StatesGoesOn, StatesCopyGoesOn}
+use Rattle.copy_records.specs.Machine.{listedFrom, copiedMachine}
+use Rattle.copy_records.specs.Typed.{QueuesTyped}
+use Rattle.copy_records.specs.Claims.{stateCopied, CopyListed, StatesGoesOn, StatesCopyGoesOn}
 use Rattle.copy_records.proofs.Again.{arranged-ordered, copy-records-replay}
 use Rattle.copy_records.proofs.Left.{copy-passed, number, rest, encoded, target-left, end-left, rest-short, room, some, most, formed}
 

@@ -1,12 +1,12 @@
--- `readout::read_input` is safe and ends: the measure is the number of turns that are left, and the buffer keeps its length.
+-- `card_input::read_input` is safe and ends: the measure is the number of turns that are left, and the buffer keeps its length.
 -- Assumes nothing.
 use mathlib.Core.Path.{_≡_, sym}
 use native.Mathlib.Omega.{arith}
 use lib.ListN.{length}
 use lib.Seq.{length-take-le}
 use borrow.Author.Needs.{needs}
-use Rattle.readout.proofs.read_input.Statement.{statement}
-use Rattle.readout.proofs.read_input.Tie as tie
+use Rattle.card_input.proofs.read_input.Statement.{statement}
+use Rattle.card_input.proofs.read_input.Tie as tie
 
 abbrev Inv-loop : tie.InvT-loop
 Inv-loop input₀ bytes₀ turns₀ input bytes turns = length input ≡ length input₀

@@ -1,0 +1,3 @@
+pub mod Cutdown
+pub mod Kept
+pub mod Claims
