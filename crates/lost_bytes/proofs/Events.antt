@@ -24,7 +24,8 @@ use Rattle.recordlog.specs.Lost.{tally, noTally, takeUp, weighTally, joinTally,
 use Rattle.recordlog.proofs.Sees.{Event, SeesBy, not-corrupt, not-sound}
 use Rattle.recordlog.proofs.Sees as Plain
 use Rattle.record.specs.Record.{decode}
-use Rattle.calls.specs.Lost.{undecoded, lostOf, handed, givenOf, onSum, sumReads, sumFrom}
+use Rattle.calls.specs.Lost.{undecoded, lostOf, onSum, sumReads, sumFrom}
+use Rattle.lost_bytes.specs.Given.{handed, givenOf}
 
 -- a frame as it is read, and its bytes
 pub data Sized : Type 0 where

@@ -17,9 +17,9 @@ use Rattle.frame.specs.Size.{frameSize}
 use Rattle.recordlog.specs.Write.{Frame, framesOf, placeAfter}
 use Rattle.recordlog.specs.Laid.{placeAll, laid}
 use Rattle.recordlog.specs.Read.{idle}
-use Rattle.recordlog.specs.Lost.{noTally, tally, hitSize}
+use Rattle.recordlog.specs.Lost.{noTally, tally}
 use Rattle.recordlog.specs.Hit.{Hit, typeLost, lossOf, struck, anyStruck}
-use Rattle.recordlog.specs.Claims.{Each}
+use Rattle.recordlog.specs.Claims.{Each, hitSize}
 use Rattle.recordlog.proofs.Sees.{Event, SeesBy, Any, fresh-arranged}
 use Rattle.recordlog.proofs.Sees as Plain
 use Rattle.recordlog.proofs.Frames.{Laid, Kinds, after, endOf, end-ge, end-append, laid-right, laid-all, end-all, contentsOf, owned, framesAll}

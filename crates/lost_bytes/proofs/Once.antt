@@ -24,7 +24,8 @@ use Rattle.recordlog.proofs.Tallied.{take-total}
 use Rattle.record.specs.Record.{Decoded, noRecord, oneRecord, decode}
 use Rattle.calls.specs.Refusals.{logRefused}
 use Rattle.calls.specs.Reading.{ReadAnswer, ofRecord, answerOf, readings}
-use Rattle.calls.specs.Lost.{undecoded, lostOf, handed, givenOf, sumFrom, sumOver, lostBytes, givenBytes, onSeen, seenTimes, seenBytes}
+use Rattle.calls.specs.Lost.{undecoded, lostOf, sumFrom, sumOver, lostBytes}
+use Rattle.lost_bytes.specs.Given.{handed, givenOf, givenBytes, onSeen, seenTimes, seenBytes}
 use Rattle.calls.proofs.Passed.{log-taken}
 use Rattle.calls.proofs.Answers.{readings-same}
 use Rattle.lost_bytes.specs.Claims.{refusedIn, LostOrGiven}

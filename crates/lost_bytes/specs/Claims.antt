@@ -14,9 +14,10 @@ use Rattle.recordlog.specs.Claims.{Each}
 use Rattle.record.specs.Record.{Record, oneRecord, decode}
 use Rattle.calls.specs.State.{State}
 use Rattle.calls.specs.Reading.{ReadAnswer, gaveRecord, gaveCorruption, gaveEnd, gaveRefusal, readings, lostIn}
-use Rattle.calls.specs.Lost.{lostBytes, givenBytes, seenBytes}
+use Rattle.calls.specs.Lost.{lostBytes}
 use Rattle.calls.specs.Machine.{Listed, Fed, machine, NoneLonger}
 use Rattle.calls.specs.Run.{StatesRun}
+use Rattle.lost_bytes.specs.Given.{givenBytes, seenBytes}
 use Rattle.lost_bytes.specs.Costs.{hitCost}
 
 -- ---- every log, however damaged

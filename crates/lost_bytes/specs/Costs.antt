@@ -1,5 +1,5 @@
--- Definition (02, Ticket 7).
--- What one hit frame costs in bytes, by the frames that the plain machine lists.
+-- Claim.
+-- What one hit frame costs in bytes (02, Ticket 7), by the frames that the plain machine lists: for the claims.
 -- Assumes nothing.
 use mathlib.Core.Bool.{Bool, cond}
 use mathlib.Core.List.{List, [], _∷_}
@@ -7,7 +7,7 @@ use Prim.Native.Nat.{ℕ, _+_}
 use lib.ListN.{length}
 use Rattle.recordlog.specs.Write.{Frame}
 use Rattle.recordlog.specs.Hit.{struck, anyStruck}
-use Rattle.recordlog.specs.Lost.{hitSize}
+use Rattle.recordlog.specs.Claims.{hitSize}
 use Rattle.calls.specs.Machine.{Listed}
 
 -- the bytes of those frames that are not struck, header and data: f is the frame hit, and `lost` whether its type is "no longer 1 to 4"

@@ -9,9 +9,6 @@ use Rattle.readout_text.proofs.parts.numbers_of.Tie as tie
 enum-known-answer : tie.Need-enum-known-answer
 enum-known-answer c = search needs
 
-cast-t4 : tie.Need-cast-t4
-cast-t4 c = search needs
-
 enum-told : tie.Need-enum-told
 enum-told c = search needs
 
@@ -24,4 +21,4 @@ unfolding numbersOf
 returns-2 c = sym (ap numbersOf (c .enum-told .given .1))
 
 pub numbers-of-spec : {M : Type 1} → statement M
-numbers-of-spec = tie.close (tie.spec enum-known-answer cast-t4 enum-told returns returns-2)
+numbers-of-spec = tie.close (tie.spec enum-known-answer enum-told returns returns-2)
