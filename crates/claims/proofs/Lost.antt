@@ -26,6 +26,7 @@ use Rattle.calls.proofs.OneHit.{states-one-hit-frame}
 use Rattle.lost_bytes.specs.Costs.{hitCost}
 use Rattle.lost_bytes.proofs.Within.{lost-within}
 use Rattle.lost_bytes.proofs.Hit.{states-lose-nothing, states-hit-costs}
+use Rattle.lost_bytes.proofs.Struck.{states-struck-within}
 use Rattle.read_step.specs.declared.ReplayAnswer.{ReplayAnswer}
 use Rattle.read_step.specs.declared.ReplayAnswer.the-variants.{Replayed as replayed}
 use Rattle.contracts.specs.Contracts.{Lent, stateOf, ReplayKept, replayAnswerBy, replayAnswer}
@@ -33,7 +34,7 @@ use Rattle.contracts.specs.Run.{Run}
 use Rattle.contracts.proofs.Runs.{run-means}
 use Rattle.contracts.proofs.Readings.{reads-all}
 use Rattle.contracts.proofs.Demands.{answers}
-use Rattle.claims.specs.Claims.{NothingLost, RoundTripNothingLost, CountsOne, OneHitCounted, ReplayLostWithin, CallsLoseNothing, LosesBytes, HitCosts}
+use Rattle.claims.specs.Claims.{NothingLost, RoundTripNothingLost, CountsOne, OneHitCounted, ReplayLostWithin, CallsLoseNothing, LosesBytes, HitCosts, StruckWithin}
 
 -- ---- a log that nobody changed
 
@@ -136,3 +137,8 @@ pub hit-costs : HitCosts
 unfolding stateOf
 hit-costs h l r before after owner earlier later f hit limit e hf hh hl =
     loses hit limit (hitCost (typeLost hit f) f (owner ∷ after)) (states-hit-costs h (stateOf l) (run-means h l r) before after owner earlier later f hit limit e hf hh hl)
+
+pub struck-within : StruckWithin
+unfolding stateOf
+struck-within h l r before after owner earlier later f lost e hf =
+    states-struck-within h (stateOf l) (run-means h l r) before after owner earlier later f lost e hf

@@ -4,7 +4,7 @@
 -- Assumes nothing.
 use mathlib.Core.Path.{_≡_}
 use mathlib.Core.Logic.{_⊎_}
-use mathlib.Core.Bool.{false}
+use mathlib.Core.Bool.{Bool, false}
 use mathlib.Core.List.{List, _∷_, _++_}
 use Prim.Native.Nat.{ℕ, _+_, _*_, _≤_, _<_}
 use lib.ListN.{length, drop}
@@ -28,6 +28,7 @@ use Rattle.calls.specs.Claims.{countedIn}
 use Rattle.calls.specs.Reading.{ReadAnswer as Given}
 use Rattle.calls.specs.Machine.{Listed, Fed, machine, NoneLonger}
 use Rattle.lost_bytes.specs.Costs.{hitCost}
+use Rattle.lost_bytes.specs.Claims.{StruckParts}
 use Rattle.call_write.specs.declared.Question.{Question}
 use Rattle.call_write.specs.declared.QuestionAnswer.{QuestionAnswer}
 use Rattle.call_write.specs.declared.QuestionAnswer.the-variants.{Refused as questionRefused}
@@ -141,6 +142,14 @@ HitCosts = (h : List Fed) (l : Lent) → Run h l
     → Hit (l .log) hit f
     → NoneLonger limit (machine h .records)
     → LosesBytes hit limit (hitCost (typeLost hit f) f (owner ∷ after))
+
+-- what the struck frames are of it
+abbrev pub StruckWithin : Type 0
+StruckWithin = (h : List Fed) (l : Lent) → Run h l
+    → (before after : List Listed) (owner : Listed) (earlier later : List Frame) (f : Frame) (lost : Bool)
+    → machine h .records ≡ before ++ (owner ∷ after)
+    → owner .frames ≡ earlier ++ (f ∷ later)
+    → StruckParts lost f (owner ∷ after)
 
 -- ---- "asking again with "after" that position gives the next"
 

@@ -102,14 +102,14 @@ states-lose-nothing h s r =
 -- ---- the frames of the owner
 
 -- a frame before the hit one is not struck
-struck-before : (lost : Bool) (h f : Frame) → f .start < h .start → struck lost h f ≡ false
+pub struck-before : (lost : Bool) (h f : Frame) → f .start < h .start → struck lost h f ≡ false
 unfolding struck
 struck-before false h f l = ap (λ (b : Bool). b || false) (ne-eqb (f .start) (h .start) (λ z. omega arith))
 struck-before true h f l =
     ap₂ _||_ (ne-eqb (f .start) (h .start) (λ z. omega arith))
     (ap (λ (b : Bool). b && eqb (f .start / 32768) (h .start / 32768)) (lt-leb (suc (h .start)) (f .start) (omega arith)))
 
-struck-self : (lost : Bool) (h : Frame) → struck lost h h ≡ true
+pub struck-self : (lost : Bool) (h : Frame) → struck lost h h ≡ true
 unfolding struck
 struck-self lost h =
     ap (λ (b : Bool). b || (lost && (ltb (h .start) (h .start) && eqb (h .start / 32768) (h .start / 32768)))) (eq-eqb (h .start) (h .start) refl)

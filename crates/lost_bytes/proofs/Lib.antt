@@ -4,3 +4,4 @@ pub mod Costs
 pub mod Once
 pub mod Records
 pub mod Hit
+pub mod Struck

@@ -10,7 +10,7 @@ use Rattle.frame.specs.Block.{blocks}
 use Rattle.recordlog.specs.Write.{Frame}
 use Rattle.recordlog.specs.Laid.{placeAll, laid}
 use Rattle.recordlog.specs.Hit.{Hit, typeLost}
-use Rattle.recordlog.specs.Claims.{Each}
+use Rattle.recordlog.specs.Claims.{Each, hitSize}
 use Rattle.record.specs.Record.{Record, oneRecord, decode}
 use Rattle.calls.specs.State.{State}
 use Rattle.calls.specs.Reading.{ReadAnswer, gaveRecord, gaveCorruption, gaveEnd, gaveRefusal, readings, lostIn}
@@ -18,7 +18,7 @@ use Rattle.calls.specs.Lost.{lostBytes}
 use Rattle.calls.specs.Machine.{Listed, Fed, machine, NoneLonger}
 use Rattle.calls.specs.Run.{StatesRun}
 use Rattle.lost_bytes.specs.Given.{givenBytes, seenBytes}
-use Rattle.lost_bytes.specs.Costs.{hitCost}
+use Rattle.lost_bytes.specs.Costs.{hitCost, struckIn}
 
 -- ---- every log, however damaged
 
@@ -70,3 +70,15 @@ StatesHitCosts = (h : List Fed) (s : State) → StatesRun h s
     → Hit (s .log) hit f
     → NoneLonger limit (machine h .records)
     → lostBytes hit limit ≡ hitCost (typeLost hit f) f (owner ∷ after)
+
+-- The struck frames are within what the hit itself costs, and are all of it where its type is not lost; else it is also what of the block is no frame: a padding, or bytes not yet written.
+pub record StruckParts (lost : Bool) (f : Frame) (ls : List Listed) : Type 0 where
+  pub within : struckIn lost f ls ≤ hitSize lost f
+  pub alone : lost ≡ false → struckIn lost f ls ≡ hitSize lost f
+
+abbrev pub StatesStruckWithin : Type 0
+StatesStruckWithin = (h : List Fed) (s : State) → StatesRun h s
+    → (before after : List Listed) (owner : Listed) (earlier later : List Frame) (f : Frame) (lost : Bool)
+    → machine h .records ≡ before ++ (owner ∷ after)
+    → owner .frames ≡ earlier ++ (f ∷ later)
+    → StruckParts lost f (owner ∷ after)

@@ -15,6 +15,15 @@ unfoldable pub unstruckBytes : Bool → Frame → List Frame → ℕ
 unstruckBytes lost f [] = 0
 unstruckBytes lost f (g ∷ gs) = cond (struck lost f g) 0 (7 + length (g .content)) + unstruckBytes lost f gs
 
+-- the bytes of those that are struck
+unfoldable pub struckBytes : Bool → Frame → List Frame → ℕ
+struckBytes lost f [] = 0
+struckBytes lost f (g ∷ gs) = cond (struck lost f g) (7 + length (g .content)) 0 + struckBytes lost f gs
+
+unfoldable pub struckIn : Bool → Frame → List Listed → ℕ
+struckIn lost f [] = 0
+struckIn lost f (l ∷ ls) = struckBytes lost f (l .frames) + struckIn lost f ls
+
 -- of a record that owns a struck frame its other frames; of one that owns none nothing
 unfoldable pub othersOf : Bool → Frame → List Frame → ℕ
 othersOf lost f gs = cond (anyStruck lost f gs) (unstruckBytes lost f gs) 0
