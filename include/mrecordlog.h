@@ -103,15 +103,16 @@ uint64_t mrecordlog_positions(const uint8_t *names, size_t names_len,
                               const uint8_t *name, size_t name_len,
                               uint64_t *start, uint64_t *next);
 
-/* The queues that the records of the log give, from no queues whatever the queue memory holds. lost: the number of corruption answers; resumed: the place in
- * the log where a writer resumes. */
+/* The queues that the records of the log give, from no queues whatever the queue memory holds. lost: the number of corruption answers. lost_bytes: what is lost in
+ * bytes: frames, header and data, with a wrong checksum; from each unreadable header or over-long frame to its block's end; and sound frames of no record handed out,
+ * so that it may be above 0 where lost is 0. resumed: the place in the log where a writer resumes. Refused: all three are 0. */
 uint64_t mrecordlog_replay(const uint8_t *log, size_t log_len,
                            uint8_t *scratch, size_t scratch_len,
                            uint8_t *names, size_t names_len,
                            uint8_t *payloads, size_t payloads_len,
                            uint8_t *entries, size_t entries_len,
                            uint8_t *table, size_t table_len,
-                           uint64_t *lost, uint64_t *resumed);
+                           uint64_t *lost, uint64_t *lost_bytes, uint64_t *resumed);
 
 /* A log cut down to what is held: the target's whole blocks are zeroed, and the queues written into it in byte order of their names, for each a touch at its start and
  * an append for each record held. Gives where the last frame ends, or 0; writing may go on there. It meets 1 (of the target), 6 (of the queue memory), 11 and 15, and

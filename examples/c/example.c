@@ -28,7 +28,7 @@ static void list(void) {
 
 int main(void) {
     size_t place = 0;
-    uint64_t refused, frame_bytes, padding_bytes, has_last, last, lost, resumed, start, next;
+    uint64_t refused, frame_bytes, padding_bytes, has_last, last, lost, lost_bytes, resumed, start, next;
     const uint64_t lens[] = {3, 0};
     refused = mrecordlog_create(block, BLOCK, &place, scratch, SCRATCH, names, NAMES, payloads, PAYLOADS, entries, ENTRIES, table, TABLE, name, 1,
                                 &frame_bytes, &padding_bytes);
@@ -41,8 +41,8 @@ int main(void) {
     memset(payloads, 0, PAYLOADS);
     memset(entries, 0, ENTRIES);
     memset(table, 0, TABLE);
-    refused = mrecordlog_replay(block, BLOCK, scratch, SCRATCH, names, NAMES, payloads, PAYLOADS, entries, ENTRIES, table, TABLE, &lost, &resumed);
-    printf("replay: refused %" PRIu64 ", lost %" PRIu64 ", resumed %" PRIu64 "\n", refused, lost, resumed);
+    refused = mrecordlog_replay(block, BLOCK, scratch, SCRATCH, names, NAMES, payloads, PAYLOADS, entries, ENTRIES, table, TABLE, &lost, &lost_bytes, &resumed);
+    printf("replay: refused %" PRIu64 ", lost %" PRIu64 ", lost bytes %" PRIu64 ", resumed %" PRIu64 "\n", refused, lost, lost_bytes, resumed);
     refused = mrecordlog_positions(names, NAMES, payloads, PAYLOADS, entries, ENTRIES, table, TABLE, name, 1, &start, &next);
     printf("positions: refused %" PRIu64 ", start %" PRIu64 ", next %" PRIu64 "\n", refused, start, next);
     list();

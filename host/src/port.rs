@@ -25,7 +25,7 @@ extern "C" {
         table: *const u8, table_len: usize, name: *const u8, name_len: usize, start: *mut u64, next: *mut u64) -> u64;
     fn mrecordlog_replay(log: *const u8, log_len: usize, scratch: *mut u8, scratch_len: usize,
         names: *mut u8, names_len: usize, payloads: *mut u8, payloads_len: usize, entries: *mut u8, entries_len: usize, table: *mut u8, table_len: usize,
-        lost: *mut u64, resumed: *mut u64) -> u64;
+        lost: *mut u64, lost_bytes: *mut u64, resumed: *mut u64) -> u64;
     fn mrecordlog_copy(target: *mut u8, target_len: usize, scratch: *mut u8, scratch_len: usize,
         names: *const u8, names_len: usize, payloads: *const u8, payloads_len: usize, entries: *const u8, entries_len: usize, table: *const u8, table_len: usize,
         end: *mut u64) -> u64;
@@ -188,20 +188,20 @@ pub fn read_by(log: &[u8], scratch: &mut [u8], block: &mut usize, cursor: &mut u
     }
 }
 
-/// The queues of a log's records into queue memory, with corruption count and resume point.
-pub fn replay(log: &[u8], scratch: &mut [u8], memory: &mut Memory) -> Result<(u64, u64), Refused> {
-    let (mut lost, mut resumed) = (UNSET, UNSET);
+/// The queues of a log's records into queue memory, with corruption count, bytes lost and resume point.
+pub fn replay(log: &[u8], scratch: &mut [u8], memory: &mut Memory) -> Result<(u64, u64, u64), Refused> {
+    let (mut lost, mut bytes, mut resumed) = (UNSET, UNSET, UNSET);
     let Memory { names, payloads, entries, table } = memory;
     // Safety: each slice is given by its own pointer and length, and none overlaps another.
     #[rustfmt::skip]
     let number = unsafe {
         mrecordlog_replay(
             log.as_ptr(), log.len(), scratch.as_mut_ptr(), scratch.len(), names.as_mut_ptr(), names.len(), payloads.as_mut_ptr(), payloads.len(),
-            entries.as_mut_ptr(), entries.len(), table.as_mut_ptr(), table.len(), &mut lost, &mut resumed,
+            entries.as_mut_ptr(), entries.len(), table.as_mut_ptr(), table.len(), &mut lost, &mut bytes, &mut resumed,
         )
     };
-    refused(number, &[lost, resumed])?;
-    Ok((lost, resumed))
+    refused(number, &[lost, bytes, resumed])?;
+    Ok((lost, bytes, resumed))
 }
 
 /// What the queue memory holds, copied into a target; where the last frame ends, or 0.
@@ -305,7 +305,7 @@ impl Port {
     }
 
     /// The queues of the log into the queue memory.
-    pub fn replay(&mut self) -> Result<(u64, u64), Refused> {
+    pub fn replay(&mut self) -> Result<(u64, u64, u64), Refused> {
         replay(&self.log, &mut self.scratch, &mut self.memory)
     }
 }

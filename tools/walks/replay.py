@@ -7,7 +7,7 @@ R = 'Rattle.replay.proofs.ReplayRules'
 CRC = ('crc', 'copy', 'u32'); LOG = ('log', 'copy', 'u8'); SCRATCH = ('scratch', 'mut', 'u8'); CAME = ('came', 'plain', 'Replaying')
 LISTS = ('names', 'payloads', 'entries', 'table')
 read_turn = F('read_turn', [CRC, LOG, SCRATCH, ('names', 'shr', 'u8'), ('table', 'shr', 'u64'), CAME], 'Turn', 'turnOf log scratch names table came', {'scratch': 'scratchAfter log scratch (came .reader)'},
-              requires='TableReady crc × (Arranged log (came .reader) × (NamesFit names table × (came .lost + 1 < 2 ^ 64)))', crate='read_step', rules=R)
+              requires='TableReady crc × (Arranged log (came .reader) × (NamesFit names table × ((came .lost + 1 < 2 ^ 64) × BytesFit log (length scratch) came)))', crate='read_step', rules=R)
 after_items = F('after_items', [('refused', 'plain', 'u64'), CAME], 'Replaying', 'afterItems refused came', crate='read_step', rules=R)
 begin = F('begin', [LOG, ('table', 'mut', 'u64')], 'Replaying', 'begun log', {'table': 'tableBegun log table'}, crate='read_step', rules=R)
 def comes(x): return dict({'scratch': x + ' .scratch'}, **{l: '%s .memory .%s' % (x, l) for l in LISTS})
@@ -25,7 +25,7 @@ use Rattle.recordlog.specs.Internal.{scratchAfter}
 use Rattle.queues.specs.Layout.{Memory as Lists, memory}
 use Rattle.queues.specs.Access.{NamesFit}
 use Rattle.call_effect.specs.Doing.{refusalBy}
-use Rattle.read_step.specs.Turn.{turnOf, afterItems, begun, tableBegun, replayAnswered, scratchClosed, tableClosed}
+use Rattle.read_step.specs.Turn.{turnOf, BytesFit, afterItems, begun, tableBegun, replayAnswered, scratchClosed, tableClosed}
 use Rattle.contracts.specs.Turning.{Midway, midway, turnAt, turned, turnsLeft}
 use Rattle.contracts.proofs.ReplayKept.{inv-closes, inv-place}
 use Rattle.replay.specs.Replay.{TurnFits, firstTurn}
@@ -38,7 +38,7 @@ use Rattle.call_apply.proofs.ByteSlices.{bytes-told}
 of = lambda k, row, name, flat=False: field('Turn', 'took', 'took-is', k, row, name, flat)
 replay_one_walk = F('replay_one', [CRC, LOG, SCRATCH] + FOUR('mut') + [CAME], 'Replaying', ONE + ' .at', comes(ONE), requires=FITS, crate='replay', path='replaying.replay_one', typed=[('Replaying', 'Rpl'), ('Turn', 'Trn')], uses=USES,
     lets=[('took', 'Turn', 'turnAt log (midway came scratch %s)' % MEMORY)],
-    calls=[dict(f=read_turn, **{'with': same('crc', 'log', 'scratch', 'names', 'table', 'came'), 'need': '(need .table-ready, (need .reader-inside, (need .names-fit, need .lost-fits)))', 'is': 'took-is', 'res': 'took'}),
+    calls=[dict(f=read_turn, **{'with': same('crc', 'log', 'scratch', 'names', 'table', 'came'), 'need': '(need .table-ready, (need .reader-inside, (need .names-fit, (need .lost-fits, need .bytes-fit))))', 'is': 'took-is', 'res': 'took'}),
            dict(f=apply, **{'with': dict(same(*LISTS, 'scratch'), doing=of(1, 'Doing', 'doing')), 'need': '(need .may-do)', 'is': 'refused-is'}),
            dict(f=after_items, **{'with': dict(refused=('(refusalBy end-scratch (took .doing) %s)' % MEMORY, 'refused-is'), came=of(0, 'Replaying', 'at', True)), 'is': 'res-is', 'res': ONE + ' .at'})])
 TOLD = [('log', 'typed', 'Bytes log', 'bytes-told ! tt log')]

@@ -1,19 +1,21 @@
--- Corruption answers that replay counts: none of a log that nobody changed, one of a log with one hit frame; and where a writer resumes.
+-- Corruption answers and bytes that replay counts: none of a log that nobody changed; one answer, and what it costs, of a log with one hit frame; and where a writer resumes.
 -- Assumes nothing.
-use mathlib.Core.Path.{_≡_, refl, sym, ap, subst, _∙_}
+use mathlib.Core.Path.{_≡_, refl, sym, ap, ap₂, subst, _∙_}
 use mathlib.Core.Logic.{_⊎_}
 use mathlib.Core.List.{List, [], _∷_, _++_, map}
-use Prim.Native.Nat.{ℕ, _+_, _≤_}
+use Prim.Native.Nat.{ℕ, _+_, _*_, _≤_}
 use lib.ListN.{length}
-use Rattle.frame.specs.Block.{padding}
+use Rattle.frame.specs.Block.{blocks, padding}
 use Rattle.recordlog.specs.Read.{resume}
 use Rattle.recordlog.specs.Claims.{Each}
+use Rattle.recordlog.specs.Hit.{typeLost}
 use Rattle.record.specs.Record.{Record}
 use Rattle.queues.specs.Queues.{Capacities}
 use Rattle.queues.specs.Layout.{Memory, meaning, capacities}
 use Rattle.queues.proofs.Both.{never}
 use Rattle.calls.specs.State.{State}
 use Rattle.calls.specs.Reading.{gaveRecord, gaveEnd, readings, lostIn}
+use Rattle.calls.specs.Lost.{lostBytes}
 use Rattle.calls.specs.Replay.{Outcome, refused, left, replayedBy, replayOf}
 use Rattle.calls.specs.Machine.{Listed, Fed, machine, recordsOf, NoneLonger}
 use Rattle.calls.specs.Run.{StatesRun as StateRun}
@@ -21,6 +23,10 @@ use Rattle.calls.proofs.Follows.{encodings}
 use Rattle.calls.proofs.Steps.{follows}
 use Rattle.calls.proofs.Runs.{same-records, states-round-trip, states-records-read, resumes-behind}
 use Rattle.calls.proofs.OneHit.{states-one-hit-frame}
+use Rattle.lost_bytes.specs.Costs.{hitCost}
+use Rattle.lost_bytes.proofs.Within.{lost-within}
+use Rattle.lost_bytes.proofs.Hit.{states-lose-nothing, states-hit-costs}
+use Rattle.lost_bytes.proofs.Struck.{states-struck-within}
 use Rattle.read_step.specs.declared.ReplayAnswer.{ReplayAnswer}
 use Rattle.read_step.specs.declared.ReplayAnswer.the-variants.{Replayed as replayed}
 use Rattle.contracts.specs.Contracts.{Lent, stateOf, ReplayKept, replayAnswerBy, replayAnswer}
@@ -28,7 +34,7 @@ use Rattle.contracts.specs.Run.{Run}
 use Rattle.contracts.proofs.Runs.{run-means}
 use Rattle.contracts.proofs.Readings.{reads-all}
 use Rattle.contracts.proofs.Demands.{answers}
-use Rattle.claims.specs.Claims.{NothingLost, RoundTripNothingLost, CountsOne, OneHitCounted}
+use Rattle.claims.specs.Claims.{NothingLost, RoundTripNothingLost, CountsOne, OneHitCounted, ReplayLostWithin, CallsLoseNothing, LosesBytes, HitCosts, StruckWithin}
 
 -- ---- a log that nobody changed
 
@@ -60,6 +66,10 @@ module _ (h : List Fed) (l : Lent) (r : Run h l) (scratch scratch′ : List ℕ)
   unfolding stateOf
   lost-is = ap (λ (n : ℕ). lostIn (readings (l .log) n)) e ∙ none-lost h (stateOf l) (run-means h l r)
 
+  bytes-is : lostBytes (l .log) (length scratch) ≡ 0
+  unfolding stateOf
+  bytes-is = ap (lostBytes (l .log)) e ∙ states-lose-nothing h (stateOf l) (run-means h l r)
+
   resumed-is : (resume (l .log) (length scratch) ≡ l .place) ⊎ (resume (l .log) (length scratch) ≡ l .place + padding (l .place))
   unfolding stateOf
   resumed-is =
@@ -71,7 +81,8 @@ module _ (h : List Fed) (l : Lent) (r : Run h l) (scratch scratch′ : List ℕ)
       record {
         resumed = resume (l .log) (length scratch);
         answer =
-            answers (l .log) scratch scratch′ m m′ a w (left (meaning (l .memory))) given-back ∙ ap (λ (n : ℕ). replayed n (resume (l .log) (length scratch))) lost-is;
+            answers (l .log) scratch scratch′ m m′ a w (left (meaning (l .memory))) given-back
+            ∙ ap₂ (λ (n b : ℕ). replayed n b (resume (l .log) (length scratch))) lost-is bytes-is;
         resumes = resumed-is;
       }
 
@@ -81,22 +92,53 @@ round-trip-nothing-lost h l r scratch scratch′ m m′ a e f w = nothing-lost h
 -- ---- one hit frame
 
 -- what a replay that was not refused counts
-told-lost : (o : Outcome) (lost lost′ p p′ : ℕ) → replayed lost p ≡ replayAnswer (replayedBy o lost′ p′) → lost ≡ lost′
+told-lost : (o : Outcome) (lost lost′ bytes bytes′ p p′ : ℕ) → replayed lost bytes p ≡ replayAnswer (replayedBy o lost′ bytes′ p′) → (lost ≡ lost′) × (bytes ≡ bytes′)
 unfolding replayedBy replayAnswer replayAnswerBy
-told-lost (refused n) lost lost′ p p′ e = never (cc)
-told-lost (left qs) lost lost′ p p′ e = cc
+told-lost (refused n) lost lost′ bytes bytes′ p p′ e = never (cc)
+told-lost (left qs) lost lost′ bytes bytes′ p p′ e = (cc, cc)
+
+module _ (log scratch scratch′ : List ℕ) (m m′ : Memory) (lost bytes resumed : ℕ) (w : ReplayKept log scratch m (replayed lost bytes resumed) scratch′ m′) where
+  told : (lost ≡ lostIn (readings log (length scratch))) × (bytes ≡ lostBytes log (length scratch))
+  told =
+      told-lost (replayOf log (capacities m) (length scratch)) lost (lostIn (readings log (length scratch))) bytes (lostBytes log (length scratch)) resumed (resume log (length scratch))
+      (answers log scratch scratch′ m m′ (replayed lost bytes resumed) w (replayOf log (capacities m) (length scratch)) refl)
 
 counts-one : (hit : List ℕ) (limit : ℕ) → lostIn (readings hit limit) ≡ 1 → CountsOne hit limit
 counts-one hit limit e =
     record {
       reading = λ scratch gs n rs. ap lostIn (reads-all hit scratch gs rs) ∙ ap (λ (i : ℕ). lostIn (readings hit i)) n ∙ e;
-      replay = λ scratch scratch′ m m′ lost resumed n w.
-          told-lost (replayOf hit (capacities m) (length scratch)) lost (lostIn (readings hit (length scratch))) resumed (resume hit (length scratch))
-          (answers hit scratch scratch′ m m′ (replayed lost resumed) w (replayOf hit (capacities m) (length scratch)) refl)
-          ∙ ap (λ (i : ℕ). lostIn (readings hit i)) n ∙ e;
+      replay = λ scratch scratch′ m m′ lost bytes resumed n w.
+          told hit scratch scratch′ m m′ lost bytes resumed w .0 ∙ ap (λ (i : ℕ). lostIn (readings hit i)) n ∙ e;
     }
 
 pub one-hit-counted : OneHitCounted
 unfolding stateOf
 one-hit-counted h l r before after owner earlier later f hit limit e hf hh hl =
     counts-one hit limit (states-one-hit-frame h (stateOf l) (run-means h l r) before after owner earlier later f hit limit e hf hh hl .lost-one)
+
+-- ---- the bytes lost
+
+pub replay-lost-within : ReplayLostWithin
+replay-lost-within log scratch scratch′ m m′ lost bytes resumed w =
+    subst (λ (n : ℕ). n ≤ blocks log * 32768) (sym (told log scratch scratch′ m m′ lost bytes resumed w .1)) (lost-within log (length scratch))
+
+pub calls-lose-nothing : CallsLoseNothing
+unfolding stateOf
+calls-lose-nothing h l r = states-lose-nothing h (stateOf l) (run-means h l r)
+
+loses : (hit : List ℕ) (limit n : ℕ) → lostBytes hit limit ≡ n → LosesBytes hit limit n
+loses hit limit n e =
+    record {
+      reading = e;
+      replay = λ scratch scratch′ m m′ lost bytes resumed q w. told hit scratch scratch′ m m′ lost bytes resumed w .1 ∙ ap (lostBytes hit) q ∙ e;
+    }
+
+pub hit-costs : HitCosts
+unfolding stateOf
+hit-costs h l r before after owner earlier later f hit limit e hf hh hl =
+    loses hit limit (hitCost (typeLost hit f) f (owner ∷ after)) (states-hit-costs h (stateOf l) (run-means h l r) before after owner earlier later f hit limit e hf hh hl)
+
+pub struck-within : StruckWithin
+unfolding stateOf
+struck-within h l r before after owner earlier later f lost e hf =
+    states-struck-within h (stateOf l) (run-means h l r) before after owner earlier later f lost e hf

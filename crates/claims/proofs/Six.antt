@@ -22,6 +22,7 @@ use Rattle.calls.specs.Calls.{callOf}
 use Rattle.calls.specs.Questions.{RangeAnswer as RangeNumbers, PositionsAnswer as PositionsNumbers}
 use Rattle.calls.specs.Questions.{questionRefusal, rangeBy, rangeAnswer, positionsBy, positionsAnswer}
 use Rattle.calls.specs.Reading.{readings, lostIn}
+use Rattle.calls.specs.Lost.{lostBytes}
 use Rattle.calls.specs.Replay.{Outcome, refused, left, replayedBy, replayCall, replayOf}
 use Rattle.calls.proofs.Chain.{lowest-first}
 use Rattle.calls.proofs.Passed.{log-taken, state-taken}
@@ -143,17 +144,17 @@ call-was-arranged l l′ k a w h =
 
 -- ---- replay
 
-meant-resumed : (o : Outcome) (lost p n : ℕ) → p ≤ n → replayMeant (replayedBy o lost p) .resumed ≤ n
+meant-resumed : (o : Outcome) (lost bytes p n : ℕ) → p ≤ n → replayMeant (replayedBy o lost bytes p) .resumed ≤ n
 unfolding replayMeant replayedBy numbersBy
-meant-resumed (refused i) lost p n h = omega arith
-meant-resumed (left qs) lost p n h = h
+meant-resumed (refused i) lost bytes p n h = omega arith
+meant-resumed (left qs) lost bytes p n h = h
 
 resumed-inside : (log scratch scratch′ : List ℕ) (m m′ : Memory) (a : ReplayAnswer) → logRefused log ≡ false → ReplayKept log scratch m a scratch′ m′
     → replayNumbers a .resumed ≤ blocks log * 32768
 unfolding replayCall
 resumed-inside log scratch scratch′ m m′ a e w =
     subst (λ (x : ReplayNumbers). x .resumed ≤ blocks log * 32768) (sym (w .numbers))
-    (meant-resumed (replayOf log (capacities m) (length scratch)) (lostIn (readings log (length scratch))) (resume log (length scratch)) (blocks log * 32768)
+    (meant-resumed (replayOf log (capacities m) (length scratch)) (lostIn (readings log (length scratch))) (lostBytes log (length scratch)) (resume log (length scratch)) (blocks log * 32768)
     (resumes-in-log log (length scratch) (log-taken log e .some)))
 
 pub replay-leaves-arranged : ReplayLeavesArranged

@@ -4,7 +4,7 @@
 -- Assumes nothing.
 use mathlib.Core.Path.{_≡_}
 use mathlib.Core.Logic.{_⊎_}
-use mathlib.Core.Bool.{false}
+use mathlib.Core.Bool.{Bool, false}
 use mathlib.Core.List.{List, _∷_, _++_}
 use Prim.Native.Nat.{ℕ, _+_, _*_, _≤_, _<_}
 use lib.ListN.{length, drop}
@@ -12,7 +12,7 @@ use Rattle.frame.specs.declared.Reader.{Reader}
 use Rattle.frame.specs.Reader.{fresh}
 use Rattle.frame.specs.Block.{blocks, padding}
 use Rattle.recordlog.specs.Write.{Frame}
-use Rattle.recordlog.specs.Hit.{Hit}
+use Rattle.recordlog.specs.Hit.{Hit, typeLost}
 use Rattle.record.specs.Record.{Item}
 use Rattle.queues.specs.declared.Lower.{Lower}
 use Rattle.queues.specs.declared.Lower.the-variants.{After as afterPosition}
@@ -23,9 +23,12 @@ use Rattle.queues.specs.Layout.{Memory, meaning, capacities}
 use Rattle.calls.specs.State.{Call, CallAnswer, bytesWritten}
 use Rattle.calls.specs.Refusals.{logRefused, stateNotArranged, readerNotArranged}
 use Rattle.calls.specs.Reading.{lostIn}
+use Rattle.calls.specs.Lost.{lostBytes}
 use Rattle.calls.specs.Claims.{countedIn}
 use Rattle.calls.specs.Reading.{ReadAnswer as Given}
 use Rattle.calls.specs.Machine.{Listed, Fed, machine, NoneLonger}
+use Rattle.lost_bytes.specs.Costs.{hitCost}
+use Rattle.lost_bytes.specs.Claims.{StruckParts}
 use Rattle.call_write.specs.declared.Question.{Question}
 use Rattle.call_write.specs.declared.QuestionAnswer.{QuestionAnswer}
 use Rattle.call_write.specs.declared.QuestionAnswer.the-variants.{Refused as questionRefused}
@@ -83,10 +86,10 @@ ReadsOnBound = (n : ℕ) (gs : List Given) → ReadsOn n fresh gs → countedIn 
 
 -- ---- demand 2: nothing is lost, and where a writer resumes
 
--- "`lost` is the number of corruption answers"; "The writer resumes at the cursor": at the write position p, or after its padding where the reader had moved on
+-- no corruption answer and no byte; "The writer resumes at the cursor": at the write position p, or after its padding where the reader had moved on
 pub record NothingLost (a : ReplayAnswer) (p : ℕ) : Type 0 where
   pub resumed : ℕ
-  pub answer : a ≡ replayed 0 resumed
+  pub answer : a ≡ replayed 0 0 resumed
   pub resumes : (resumed ≡ p) ⊎ (resumed ≡ p + padding p)
 
 -- of every replay of which `RoundTrip` tells that it gives the queues
@@ -100,8 +103,8 @@ RoundTripNothingLost = (h : List Fed) (l : Lent) → Run h l
 -- by any reading, and by any replay that is not refused
 pub record CountsOne (hit : List ℕ) (limit : ℕ) : Type 0 where
   pub reading : (scratch : List ℕ) (gs : List Given) → length scratch ≡ limit → Reads hit scratch fresh gs → lostIn gs ≡ 1
-  pub replay : (scratch scratch′ : List ℕ) (m m′ : Memory) (lost resumed : ℕ) → length scratch ≡ limit
-      → ReplayKept hit scratch m (replayed lost resumed) scratch′ m′ → lost ≡ 1
+  pub replay : (scratch scratch′ : List ℕ) (m m′ : Memory) (lost bytes resumed : ℕ) → length scratch ≡ limit
+      → ReplayKept hit scratch m (replayed lost bytes resumed) scratch′ m′ → lost ≡ 1
 
 -- of every hit of which `OneHitFrame` tells the answers and the queues
 abbrev pub OneHitCounted : Type 0
@@ -112,6 +115,41 @@ OneHitCounted = (h : List Fed) (l : Lent) → Run h l
     → Hit (l .log) hit f
     → NoneLonger limit (machine h .records)
     → CountsOne hit limit
+
+-- ---- the bytes lost (02, Ticket 7)
+
+-- no more than the whole blocks have, by any replay that is not refused
+abbrev pub ReplayLostWithin : Type 0
+ReplayLostWithin = (log scratch scratch′ : List ℕ) (m m′ : Memory) (lost bytes resumed : ℕ)
+    → ReplayKept log scratch m (replayed lost bytes resumed) scratch′ m′ → bytes ≤ blocks log * 32768
+
+-- none of a log that calls wrote
+abbrev pub CallsLoseNothing : Type 0
+CallsLoseNothing = (h : List Fed) (l : Lent) → Run h l → lostBytes (l .log) (length (l .scratch)) ≡ 0
+
+-- so many are lost of a log, and so many does any replay tell that is not refused
+pub record LosesBytes (hit : List ℕ) (limit n : ℕ) : Type 0 where
+  pub reading : lostBytes hit limit ≡ n
+  pub replay : (scratch scratch′ : List ℕ) (m m′ : Memory) (lost bytes resumed : ℕ) → length scratch ≡ limit
+      → ReplayKept hit scratch m (replayed lost bytes resumed) scratch′ m′ → bytes ≡ n
+
+-- What one hit frame costs: the struck frames and the other frames of their owners. Of every hit of which `OneHitFrame` tells the answers and the queues.
+abbrev pub HitCosts : Type 0
+HitCosts = (h : List Fed) (l : Lent) → Run h l
+    → (before after : List Listed) (owner : Listed) (earlier later : List Frame) (f : Frame) (hit : List ℕ) (limit : ℕ)
+    → machine h .records ≡ before ++ (owner ∷ after)
+    → owner .frames ≡ earlier ++ (f ∷ later)
+    → Hit (l .log) hit f
+    → NoneLonger limit (machine h .records)
+    → LosesBytes hit limit (hitCost (typeLost hit f) f (owner ∷ after))
+
+-- what the struck frames are of it
+abbrev pub StruckWithin : Type 0
+StruckWithin = (h : List Fed) (l : Lent) → Run h l
+    → (before after : List Listed) (owner : Listed) (earlier later : List Frame) (f : Frame) (lost : Bool)
+    → machine h .records ≡ before ++ (owner ∷ after)
+    → owner .frames ≡ earlier ++ (f ∷ later)
+    → StruckParts lost f (owner ∷ after)
 
 -- ---- "asking again with "after" that position gives the next"
 

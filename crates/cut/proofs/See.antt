@@ -60,7 +60,7 @@ module _ (log : List ℕ) (p : ℕ) (r : Reader) (a : At log p r) (t : FrameType
       → Sees log Z r (corrupted wrongChecksum ∷ map event gs)
   sees-headed {Z} gs k tail e l w z =
       let q = read-headed (bytesOf gs ++ (zeros k ++ tail)) e in
-      bad wrongChecksum (ap (λ (y : FrameRead). y .answer) q)
+      bad wrongChecksum (ap (λ (y : FrameRead). y .answer) q) tt
       (subst (λ (y : FrameRead). Sees log Z (y .reader) (map event gs)) (sym q)
       (sees-rest log gs (p + padding p + 7 + length xs) (behind (p + padding p) (length xs)) k tail
       (at-behind log (p + padding p) (length xs) fits inside) l
@@ -110,7 +110,7 @@ module _ (log : List ℕ) (p : ℕ) (r : Reader) (a : At log p r) (w rest : List
   pub sees-torn : {Z : Reader → Type 0} (k : ℕ) (tail : List ℕ) → drop (beyond p) log ≡ zeros k ++ tail → beyond p + k ≡ blocks log * 32768
       → Z (readFrame log (spoiltAt p) .reader) → Sees log Z r (corrupted unknownType ∷ [])
   sees-torn {Z} k tail d h z =
-      bad unknownType (ap (λ (y : FrameRead). y .answer) read-torn)
+      bad unknownType (ap (λ (y : FrameRead). y .answer) read-torn) tt
       (subst (λ (y : FrameRead). Sees log Z (y .reader) []) (sym read-torn) (sees-zeros log (beyond p) (spoiltAt p) k tail arrives d h z))
 
   -- frames after its block
@@ -119,7 +119,7 @@ module _ (log : List ℕ) (p : ℕ) (r : Reader) (a : At log p r) (w rest : List
   unfolding endOf bytesOf
   sees-torn-on [] k tail l d h = sees-torn k tail d h tt
   sees-torn-on (g ∷ gs) k tail l d h =
-      bad unknownType (ap (λ (y : FrameRead). y .answer) read-torn)
+      bad unknownType (ap (λ (y : FrameRead). y .answer) read-torn) tt
       (subst (λ (y : FrameRead). Sees log Any (y .reader) (map event (g ∷ gs))) (sym read-torn)
       (sees-one log (beyond p) (spoiltAt p) g gs (zeros k ++ tail) (map event gs) arrives (l .0) d (omega (arith, end-ge (after (beyond p) g) gs))
       (λ b. sees-rest log gs (after (beyond p) g) (behind (beyond p + padding (beyond p)) (length (g .content))) k tail b (l .1)

@@ -16,6 +16,7 @@ use Rattle.calls.specs.State.{State, Call, CallAnswer, Returned}
 use Rattle.calls.specs.Refusals.{logRefused, refusalOf}
 use Rattle.calls.specs.Calls.{callOf}
 use Rattle.calls.specs.Reading.{readings, lostIn}
+use Rattle.calls.specs.Lost.{lostBytes}
 use Rattle.calls.specs.Replay.{Outcome, refused, left, replayedBy, replayOf, outcomeQueues, replayRecords, replayScratch}
 use Rattle.calls.specs.Machine.{Listed, Machine, Fed, machine, recordsOf, NoneLonger}
 use Rattle.calls.proofs.Done.{call-refused, same-state}
@@ -120,24 +121,24 @@ pub since-means : (l₀ : Lent) {h : List Fed} {l : Lent} → Since l₀ h l →
 since-means l₀ none = state-none
 since-means l₀ (call {h} {l} k a l′ r w) = state-call k a (stateOf l′) (since-means l₀ r) (w .typed) (w .answer) (call-means l l′ k a w)
 
-told-left : (o : Outcome) (lost lost′ p p′ : ℕ) → replayed lost p ≡ replayAnswer (replayedBy o lost′ p′) → (qs : List Queue) × (o ≡ left qs) × (p ≡ p′)
+told-left : (o : Outcome) (lost lost′ bytes bytes′ p p′ : ℕ) → replayed lost bytes p ≡ replayAnswer (replayedBy o lost′ bytes′ p′) → (qs : List Queue) × (o ≡ left qs) × (p ≡ p′)
 unfolding replayedBy replayAnswer replayAnswerBy
-told-left (refused n) lost lost′ p p′ e = let z : _≡_ {A = ℕ} 0 1 = cc in absurd (omega arith)
-told-left (left qs) lost lost′ p p′ e = (qs, refl, cc)
+told-left (refused n) lost lost′ bytes bytes′ p p′ e = let z : _≡_ {A = ℕ} 0 1 = cc in absurd (omega arith)
+told-left (left qs) lost lost′ bytes bytes′ p p′ e = (qs, refl, cc)
 
 module _ (log scratch : List ℕ) (m : Memory) (l₀ : Lent) (o : Opened log scratch m l₀) where
   -- the queues that replay gave, and the place
   found : (qs : List Queue) × (replayOf log (capacities m) (length scratch) ≡ left qs) × (l₀ .place ≡ resume log (length scratch))
   found =
-      told-left (replayOf log (capacities m) (length scratch)) (o .lost) (lostIn (readings log (length scratch))) (l₀ .place) (resume log (length scratch))
-      (answers log scratch (l₀ .scratch) m (l₀ .memory) (replayed (o .lost) (l₀ .place)) (o .kept) (replayOf log (capacities m) (length scratch)) refl)
+      told-left (replayOf log (capacities m) (length scratch)) (o .lost) (lostIn (readings log (length scratch))) (o .lost-bytes) (lostBytes log (length scratch)) (l₀ .place) (resume log (length scratch))
+      (answers log scratch (l₀ .scratch) m (l₀ .memory) (replayed (o .lost) (o .lost-bytes) (l₀ .place)) (o .kept) (replayOf log (capacities m) (length scratch)) refl)
 
   legal-opened : logRefused log ≡ false
   legal-opened = legal-by log (capacities m) (length scratch) (found .0) (found .1) (logRefused log) refl
 
   memory-is : Leaves m (l₀ .memory) (found .0)
   unfolding outcomeQueues
-  memory-is = leaves log scratch (l₀ .scratch) m (l₀ .memory) (replayed (o .lost) (l₀ .place)) (o .kept) legal-opened (left (found .0)) (found .1)
+  memory-is = leaves log scratch (l₀ .scratch) m (l₀ .memory) (replayed (o .lost) (o .lost-bytes) (l₀ .place)) (o .kept) legal-opened (left (found .0)) (found .1)
 
   opened-means : stateOf l₀ ≡ reopened log (capacities m) (found .0) (length scratch)
   unfolding stateOf replayScratch

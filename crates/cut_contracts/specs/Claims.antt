@@ -35,7 +35,8 @@ cutLent l l′ c = take c (l′ .log) ++ drop c (l .log)
 -- a replay of a log that was not refused, and what is lent to the first call after it
 pub record Opened (log scratch : List ℕ) (m : Memory) (l₀ : Lent) : Type 0 where
   pub lost : ℕ
-  pub kept : ReplayKept log scratch m (replayed lost (l₀ .place)) (l₀ .scratch) (l₀ .memory)
+  pub lost-bytes : ℕ
+  pub kept : ReplayKept log scratch m (replayed lost lost-bytes (l₀ .place)) (l₀ .scratch) (l₀ .memory)
   pub log-is : l₀ .log ≡ log
 
 -- a list of calls from there on, the latest first, each lent what the one before left

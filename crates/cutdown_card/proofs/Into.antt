@@ -14,6 +14,7 @@ use Rattle.queues.specs.Layout.{Memory, meaning, arranged, capacities, Leaves}
 use Rattle.queues.proofs.Both.{never}
 use Rattle.calls.specs.Refusals.{logRefused}
 use Rattle.calls.specs.Reading.{readings, lostIn}
+use Rattle.calls.specs.Lost.{lostBytes}
 use Rattle.calls.specs.Replay.{Outcome, refused, left, replayOf, replayedBy, replayCall, outcomeQueues, replayScratch}
 use Rattle.read_step.specs.declared.ReplayAnswer.{ReplayAnswer}
 use Rattle.read_step.specs.declared.ReplayAnswer.the-variants.{Replayed as replayed, Refused as replayRefused}
@@ -34,15 +35,15 @@ use Rattle.cutdown_card.specs.Kept.{copiedAs, intoBy, Into}
 
 -- ---- what an answer of replay says of its outcome
 
-outcome-refused : (o : Outcome) (lost p k : ℕ) → replayRefused k ≡ replayAnswer (replayedBy o lost p) → o ≡ refused k
+outcome-refused : (o : Outcome) (lost bytes p k : ℕ) → replayRefused k ≡ replayAnswer (replayedBy o lost bytes p) → o ≡ refused k
 unfolding replayAnswer replayAnswerBy replayedBy
-outcome-refused (refused n) lost p k e = cc
-outcome-refused (left qs) lost p k e = never (cc)
+outcome-refused (refused n) lost bytes p k e = cc
+outcome-refused (left qs) lost bytes p k e = never (cc)
 
-outcome-left : (o : Outcome) (lost p i j : ℕ) → replayed i j ≡ replayAnswer (replayedBy o lost p) → o ≡ left (outcomeQueues o)
+outcome-left : (o : Outcome) (lost bytes p i b j : ℕ) → replayed i b j ≡ replayAnswer (replayedBy o lost bytes p) → o ≡ left (outcomeQueues o)
 unfolding replayAnswer replayAnswerBy replayedBy outcomeQueues
-outcome-left (refused n) lost p i j e = never (cc)
-outcome-left (left qs) lost p i j e = refl
+outcome-left (refused n) lost bytes p i b j e = never (cc)
+outcome-left (left qs) lost bytes p i b j e = refl
 
 -- ---- what an answer of the copy says of its refusal
 
@@ -89,7 +90,7 @@ module _ (card scratch scratch′ : List ℕ) (m m′ : Memory) (a : ReplayAnswe
   abbrev outcome : Outcome
   outcome = replayOf card (capacities m) (length scratch)
 
-  answers : a ≡ replayAnswer (replayedBy outcome (lostIn (readings card (length scratch))) (resume card (length scratch)))
+  answers : a ≡ replayAnswer (replayedBy outcome (lostIn (readings card (length scratch))) (lostBytes card (length scratch)) (resume card (length scratch)))
   unfolding replayCall
   answers = w .answer
 
@@ -97,15 +98,15 @@ module _ (card scratch scratch′ : List ℕ) (m m′ : Memory) (a : ReplayAnswe
   unfolding cutInto answeredBy intoBy
   into-refused k e =
       subst (λ (o : Outcome). Into o (length scratch) target (Refused k) target)
-      (sym (outcome-refused outcome (lostIn (readings card (length scratch))) (resume card (length scratch)) k (sym e ∙ answers)))
+      (sym (outcome-refused outcome (lostIn (readings card (length scratch))) (lostBytes card (length scratch)) (resume card (length scratch)) k (sym e ∙ answers)))
       (record { typed = tt; answer = refl; target-left = refl })
 
-  module _ (i j : ℕ) (e : a ≡ replayed i j) where
+  module _ (i b j : ℕ) (e : a ≡ replayed i b j) where
     abbrev queues-left : List Queue
     queues-left = outcomeQueues outcome
 
     outcome-is : outcome ≡ left queues-left
-    outcome-is = outcome-left outcome (lostIn (readings card (length scratch))) (resume card (length scratch)) i j (sym e ∙ answers)
+    outcome-is = outcome-left outcome (lostIn (readings card (length scratch))) (lostBytes card (length scratch)) (resume card (length scratch)) i b j (sym e ∙ answers)
 
     legal : logRefused card ≡ false
     legal = legal-by card (capacities m) (length scratch) queues-left outcome-is (logRefused card) refl
@@ -121,7 +122,7 @@ module _ (card scratch scratch′ : List ℕ) (m m′ : Memory) (a : ReplayAnswe
     unfolding lentOf
     lent-is =
         ap (λ (qs : List Queue). record { target = target; queues = qs; arranged = arranged m′; scratch = scratch′ }) (leaves .means)
-        ∙ ap₂ (λ (b : Bool) (s : List ℕ). record { target = target; queues = queues-left; arranged = b; scratch = s }) (leaves .still-arranged) scratch-zero
+        ∙ ap₂ (λ (x : Bool) (s : List ℕ). record { target = target; queues = queues-left; arranged = x; scratch = s }) (leaves .still-arranged) scratch-zero
 
     pub into-copied : (c : CopyAnswer) (target′ scratch″ : List ℕ) → CopyKept target scratch′ m′ (copyNumbers c) target′ scratch″
         → Into outcome (length scratch) target (copiedAs c (length target)) target′
@@ -132,9 +133,9 @@ module _ (card scratch scratch′ : List ℕ) (m m′ : Memory) (a : ReplayAnswe
         (k .target-left ∙ ap (λ (s : CopyLent). copyOf s .target) lent-is))
 
 -- the same, as the code hands it on
-pub copied-as : (card scratch scratch′ : List ℕ) (m m′ : Memory) (a : ReplayAnswer) → ReplayKept card scratch m a scratch′ m′ → (target : List ℕ) (i j : ℕ) → a ≡ replayed i j
+pub copied-as : (card scratch scratch′ : List ℕ) (m m′ : Memory) (a : ReplayAnswer) → ReplayKept card scratch m a scratch′ m′ → (target : List ℕ) (i b j : ℕ) → a ≡ replayed i b j
     → (c : CopyAnswer) (target′ scratch″ : List ℕ) → CopyKept target scratch′ m′ (copyNumbers c) target′ scratch″ → {r : Cutdown} {n : ℕ} → n ≡ length target → r ≡ copiedAs c n
     → Into (replayOf card (capacities m) (length scratch)) (length scratch) target r target′
-copied-as card scratch scratch′ m m′ a w target i j e c target′ scratch″ k l h =
+copied-as card scratch scratch′ m m′ a w target i b j e c target′ scratch″ k l h =
     subst (λ (x : Cutdown). Into (replayOf card (capacities m) (length scratch)) (length scratch) target x target′) (sym (h ∙ ap (copiedAs c) l))
-    (into-copied card scratch scratch′ m m′ a w target i j e c target′ scratch″ k)
+    (into-copied card scratch scratch′ m m′ a w target i b j e c target′ scratch″ k)

@@ -11,18 +11,24 @@ use Rattle.slices.specs.Bytes.{Bytes, zeros}
 use Rattle.slices.specs.Put.{put}
 use Rattle.frame.specs.Block.{blocks}
 use Rattle.recordlog.specs.Read.{resume}
-use Rattle.record.specs.Record.{Record}
+use Rattle.recordlog.specs.Claims.{Each}
+use Rattle.record.specs.Record.{Record, encode}
+use Rattle.record.proofs.Codec.{decodes-back}
 use Rattle.queues.specs.Queues.{Queue, inOrder}
 use Rattle.queues.proofs.Both.{never}
-use Rattle.calls.specs.Reading.{ReadAnswer, gaveRecord, gaveEnd, readings, lostIn}
+use Rattle.calls.specs.Reading.{readings, lostIn}
+use Rattle.calls.specs.Lost.{lostBytes}
 use Rattle.calls.specs.Replay.{Outcome, left, replayOf, replayedBy, replayCall}
 use Rattle.calls.specs.Claims.{queuesArranged}
 use Rattle.calls.proofs.AnyLog.{replayed-arranged}
+use Rattle.calls.proofs.Answers.{Formed}
+use Rattle.lost_bytes.specs.Claims.{Decodes}
+use Rattle.lost_bytes.proofs.Hit.{records-lose-nothing}
 use Rattle.copy_records.specs.Copy.{CopyLent, copyRecords, copyEncoded, copyRefusal, copied, copyOf}
 use Rattle.copy_records.specs.Typed.{QueuesTyped}
 use Rattle.copy_records.proofs.Again.{arranged-ordered}
-use Rattle.copy_records.proofs.Formed.{Shorter, shorter-none}
-use Rattle.copy_records.proofs.Left.{copy-passed, states-copy-reads, states-copy-replays}
+use Rattle.copy_records.proofs.Formed.{Shorter}
+use Rattle.copy_records.proofs.Left.{copy-passed, number, encoded, rest, rest-short, room, target-left, formed, states-copy-replays}
 use Rattle.listing.specs.Listing.{listing, refusal}
 use Rattle.readout_text.specs.Card.{textBy, textFor, textIn, readoutScratch, readoutRoom, sizedText, notSized, cardText}
 use Rattle.readout_text.proofs.Sizes.{just-sized}
@@ -32,11 +38,10 @@ use Rattle.cutdown_card.specs.Cutdown.{Cut, cutRefused, cutTo, lentFor, 
 use Rattle.cutdown_card.specs.Claims.{Refreshed, CutdownRefreshes, CutdownInside}
 use Rattle.cutdown_card.proofs.Sizes.{put-first, fresh-is, fresh-long, was-sized, was-done, sized-is, sized-long}
 
--- nothing is lost where records alone are given
-none-lost : (rs : List Record) → lostIn (map gaveRecord rs ++ (gaveEnd ∷ [])) ≡ 0
-unfolding lostIn
-none-lost [] = refl
-none-lost (r ∷ rs) = none-lost rs
+-- the bytes of records that are well formed mean them
+decoded : (rs : List Record) → Formed rs → Each Decodes (map encode rs)
+decoded [] w = tt
+decoded (r ∷ rs) w = ((r, decodes-back r (w .0)), decoded rs (w .1))
 
 -- ---- a card that is cut down to the queues qs
 
@@ -67,19 +72,22 @@ module _ (card : List ℕ) (qs : List Queue) (b : Bytes card) (t : QueuesTyped q
       ap (λ (log : List ℕ). replayOf log readoutRoom readoutScratch) (sym (fresh-is card qs readoutScratch taken))
       ∙ states-copy-replays lent readoutRoom taken in-room t readoutScratch (omega (arith, length-replicate {A = ℕ} readoutScratch 0))
 
-  nothing-lost : lostIn (readings fresh readoutScratch) ≡ 0
+  short : Shorter readoutScratch (copyEncoded qs)
+  short = subst (λ (n : ℕ). Shorter n (copyEncoded qs)) (length-replicate {A = ℕ} readoutScratch 0) (copy-passed lent taken .in-scratch)
+
+  nothing-lost : lostBytes fresh readoutScratch ≡ 0
+  unfolding encoded
   nothing-lost =
-      ap (λ (log : List ℕ). lostIn (readings log readoutScratch)) (sym (fresh-is card qs readoutScratch taken))
-      ∙ ap lostIn (states-copy-reads lent taken (arranged-ordered readoutRoom qs in-room) t readoutScratch
-      (shorter-none readoutScratch (copyEncoded qs) (subst (λ (n : ℕ). Shorter n (copyEncoded qs)) (length-replicate {A = ℕ} readoutScratch 0) (copy-passed lent taken .in-scratch))))
-      ∙ none-lost (copyRecords qs)
+      ap (λ (log : List ℕ). lostBytes log readoutScratch) (sym (fresh-is card qs readoutScratch taken) ∙ target-left lent taken)
+      ∙ records-lose-nothing (number lent taken) readoutScratch (encoded lent taken) (rest lent taken) (rest-short lent taken) (room lent taken) short
+      (decoded (copyRecords qs) (formed lent taken (arranged-ordered readoutRoom qs in-room) t))
 
   pub lists-them : cardText fresh ≡ listing qs 0 (resume fresh readoutScratch) (length fresh)
   unfolding sizedText textIn textFor textBy replayCall replayedBy
   lists-them =
       let h = sized-long card (was-sized card qs d) in
       just-sized fresh (omega (arith, long, h .0)) (omega (arith, long, h .1))
-      ∙ ap (λ (o : Outcome). textFor (replayedBy o (lostIn (readings fresh readoutScratch)) (resume fresh readoutScratch)) (length fresh)) again-is
+      ∙ ap (λ (o : Outcome). textFor (replayedBy o (lostIn (readings fresh readoutScratch)) (lostBytes fresh readoutScratch) (resume fresh readoutScratch)) (length fresh)) again-is
       ∙ ap (λ (n : ℕ). listing qs n (resume fresh readoutScratch) (length fresh)) nothing-lost
 
   fresh-sized : notSized fresh ≡ false

@@ -1,5 +1,5 @@
 -- Definition (01, "Readout"; 02, Ticket 2).
--- 01, "Readout": the text that is listed for the queues, the number of corruption answers and the resume point, line by line.
+-- 01, "Readout": the text that is listed for the queues, the bytes lost and the resume point, line by line.
 -- Characters are their ASCII codes; each line ends with a line feed, 10.
 -- Assumes nothing.
 use mathlib.Core.Bool.{cond}
@@ -108,7 +108,7 @@ fillLine t = numbered fillWord (t / 10) ++ numberLine point (t % 10)
 
 -- ---- the whole
 
--- "`lost` is the number of corruption answers."
+-- "From now on `lost` is a number of bytes" (02, Ticket 7)
 unfoldable pub endLines : ℕ → ℕ → ℕ → List ℕ
 endLines lost resumed n = numberLine lostWord lost ++ fillLine (fillTenths resumed n)
 

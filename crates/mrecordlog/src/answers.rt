@@ -84,17 +84,28 @@ pub fn tell_call(answer: Called) -> CallTold
     }
 }
 
-pub fn tell_replay(answer: ReplayAnswer, lost_answers: &mut u64, resume: &mut u64) -> u64
-    ensures { λ r. ⌜ replayTold r (now («lost_answers» .exit)) (now (resume .exit)) ≡ tellReplay answer ⌝ }
+pub fn tell_replay(
+    answer: ReplayAnswer,
+    lost_answers: &mut u64,
+    bytes: &mut u64,
+    resume: &mut u64,
+) -> u64
+    ensures { λ r. ⌜ replayTold r (now («lost_answers» .exit)) (now (bytes .exit)) (now (resume .exit)) ≡ tellReplay answer ⌝ }
 {
     match answer {
-        ReplayAnswer::Replayed { lost, resumed } => {
+        ReplayAnswer::Replayed {
+            lost,
+            lost_bytes,
+            resumed,
+        } => {
             *lost_answers = lost;
+            *bytes = lost_bytes as u64;
             *resume = resumed as u64;
             0
         }
         ReplayAnswer::Refused(number) => {
             *lost_answers = 0;
+            *bytes = 0;
             *resume = 0;
             number_told(number)
         }

@@ -14,6 +14,7 @@ use Rattle.queues.specs.Queues.{Queue}
 use Rattle.queues.specs.Layout.{Memory, memory, meaning, arranged, capacities, Leaves}
 use Rattle.calls.specs.Refusals.{logRefused}
 use Rattle.calls.specs.Reading.{readings, lostIn}
+use Rattle.calls.specs.Lost.{lostBytes}
 use Rattle.calls.specs.Replay.{Outcome, refused, left, replayOf, replayedBy, replayCall, outcomeQueues, replayScratch}
 use Rattle.calls.proofs.Passed.{log-taken}
 use Rattle.calls.proofs.AnyLog.{resumes-in-log}
@@ -32,10 +33,10 @@ shownIn a m n = listing (meaning m) (numbersOf a .lost) (numbersOf a .resumed) n
 
 -- ---- what the listing asks
 
-told-inside : (o : Outcome) (lost p n : ℕ) → p ≤ n → numbersOf (replayAnswer (replayedBy o lost p)) .resumed ≤ n
+told-inside : (o : Outcome) (lost bytes p n : ℕ) → p ≤ n → numbersOf (replayAnswer (replayedBy o lost bytes p)) .resumed ≤ n
 unfolding numbersOf replayAnswer replayAnswerBy replayedBy
-told-inside (refused k) lost p n h = omega arith
-told-inside (left qs) lost p n h = h
+told-inside (refused k) lost bytes p n h = omega arith
+told-inside (left qs) lost bytes p n h = h
 
 module _ (log scratch scratch′ : List ℕ) (m m′ : Memory) (a : ReplayAnswer) (legal : logRefused log ≡ false) (w : ReplayKept log scratch m a scratch′ m′) where
   abbrev given : Outcome
@@ -44,13 +45,16 @@ module _ (log scratch scratch′ : List ℕ) (m m′ : Memory) (a : ReplayAnswer
   abbrev lost-in : ℕ
   lost-in = lostIn (readings log (length scratch))
 
+  abbrev bytes-in : ℕ
+  bytes-in = lostBytes log (length scratch)
+
   abbrev place-in : ℕ
   place-in = resume log (length scratch)
 
   pub leaves : Leaves m m′ (outcomeQueues given)
   leaves = subst (λ (b : Bool). ReplayLeft b m m′ (outcomeQueues given)) legal (w .memory-left)
 
-  pub answers : a ≡ replayAnswer (replayedBy given lost-in place-in)
+  pub answers : a ≡ replayAnswer (replayedBy given lost-in bytes-in place-in)
   unfolding replayCall
   answers = w .answer
 
@@ -63,27 +67,27 @@ module _ (log scratch scratch′ : List ℕ) (m m′ : Memory) (a : ReplayAnswer
     record {
       a-block = omega (arith, log-taken log legal .some);
       few-blocks = log-taken log legal .most;
-      inside = subst (λ (x : ReplayAnswer). numbersOf x .resumed ≤ length log) (sym answers) (told-inside given lost-in place-in (length log) place-inside);
+      inside = subst (λ (x : ReplayAnswer). numbersOf x .resumed ≤ length log) (sym answers) (told-inside given lost-in bytes-in place-in (length log) place-inside);
     },
   )
 
 -- ---- what is left
 
-module _ (out : List ℕ) (clear : out ≡ zeros (length out)) (m′ : Memory) (lost p n : ℕ) where
+module _ (out : List ℕ) (clear : out ≡ zeros (length out)) (m′ : Memory) (lost bytes p n : ℕ) where
   abbrev shown : Outcome → List ℕ
-  shown o = shownIn (replayAnswer (replayedBy o lost p)) m′ n
+  shown o = shownIn (replayAnswer (replayedBy o lost bytes p)) m′ n
 
   answer-by : (o : Outcome) → meaning m′ ≡ outcomeQueues o
-      → closedAnswer (replayAnswer (replayedBy o lost p)) (listed (length out) (length (shown o))) (length (written out 0 (shown o))) ≡ listed (length out) (length (textFor (replayedBy o lost p) n))
+      → closedAnswer (replayAnswer (replayedBy o lost bytes p)) (listed (length out) (length (shown o))) (length (written out 0 (shown o))) ≡ listed (length out) (length (textFor (replayedBy o lost bytes p) n))
   unfolding closedAnswer numbersOf replayAnswer replayAnswerBy replayedBy outcomeQueues textFor textBy
   answer-by (refused k) e = ap (λ (z : ℕ). listed z (length (refusal k))) (length-written out 0 (listing (meaning m′) 0 0 n))
-  answer-by (left qs) e = ap (λ (q : List Queue). listed (length out) (length (listing q lost p n))) e
+  answer-by (left qs) e = ap (λ (q : List Queue). listed (length out) (length (listing q bytes p n))) e
 
-  text-by : (o : Outcome) → meaning m′ ≡ outcomeQueues o → closedText (replayAnswer (replayedBy o lost p)) (written out 0 (shown o)) ≡ written out 0 (textFor (replayedBy o lost p) n)
+  text-by : (o : Outcome) → meaning m′ ≡ outcomeQueues o → closedText (replayAnswer (replayedBy o lost bytes p)) (written out 0 (shown o)) ≡ written out 0 (textFor (replayedBy o lost bytes p) n)
   unfolding closedText numbersOf replayAnswer replayAnswerBy replayedBy outcomeQueues textFor textBy
   text-by (refused k) e =
       ap (λ (z : ℕ). written (zeros z) 0 (refusal k)) (length-written out 0 (listing (meaning m′) 0 0 n)) ∙ ap (λ (s : List ℕ). written s 0 (refusal k)) (sym clear)
-  text-by (left qs) e = ap (λ (q : List Queue). written out 0 (listing q lost p n)) e
+  text-by (left qs) e = ap (λ (q : List Queue). written out 0 (listing q bytes p n)) e
 
 zero-scratch : (log s s′ : List ℕ) → logRefused log ≡ false → s′ ≡ replayScratch log s → s′ ≡ zeros (length s)
 unfolding replayScratch
@@ -99,15 +103,16 @@ card-kept input scratch ns ps t out a scratch′ ns′ ps′ es′ t′ legal cl
     let m′ : Memory = memory ns′ ps′ es′ t′ in
     let o : Outcome = replayOf input (capacities m) (length scratch) in
     let lost : ℕ = lostIn (readings input (length scratch)) in
+    let bytes : ℕ = lostBytes input (length scratch) in
     let p : ℕ = resume input (length scratch) in
     let n : ℕ = length input in
-    let e : a ≡ replayAnswer (replayedBy o lost p) = answers input scratch scratch′ m m′ a legal w in
+    let e : a ≡ replayAnswer (replayedBy o lost bytes p) = answers input scratch scratch′ m m′ a legal w in
     let l : Leaves m m′ (outcomeQueues o) = leaves input scratch scratch′ m m′ a legal w in
     record {
       answer =
           ap (λ (x : ReplayAnswer). closedAnswer x (listed (length out) (length (shownIn x m′ n))) (length (written out 0 (shownIn x m′ n)))) e
-          ∙ answer-by out clear m′ lost p n o (l .means);
-      text-left = ap (λ (x : ReplayAnswer). closedText x (written out 0 (shownIn x m′ n))) e ∙ text-by out clear m′ lost p n o (l .means);
+          ∙ answer-by out clear m′ lost bytes p n o (l .means);
+      text-left = ap (λ (x : ReplayAnswer). closedText x (written out 0 (shownIn x m′ n))) e ∙ text-by out clear m′ lost bytes p n o (l .means);
       scratch-left = zero-scratch input scratch scratch′ legal (w .scratch-left);
       entries = es′;
       memory-left = l;

@@ -14,12 +14,13 @@ use Rattle.frame.specs.Block.{blocks}
 use Rattle.recordlog.specs.Read.{resume}
 use Rattle.queues.specs.Queues.{nameBytes, recordCount, payloadBytes, inOrder}
 use Rattle.queues.proofs.Both.{and-left, and-right}
-use Rattle.calls.specs.Reading.{ReadAnswer, gaveRecord, gaveCorruption, gaveEnd, gaveRefusal, readings, lostIn}
-use Rattle.calls.specs.Claims.{countedIn, queuesArranged}
+use Rattle.calls.specs.Reading.{readings, lostIn}
+use Rattle.calls.specs.Lost.{lostBytes}
+use Rattle.calls.specs.Claims.{queuesArranged}
 use Rattle.calls.specs.Replay.{Outcome, refused, left, replayOf, replayedBy, replayCall}
 use Rattle.calls.proofs.Passed.{log-taken}
 use Rattle.calls.proofs.Chain.{or-left, or-right}
-use Rattle.calls.proofs.Answers.{readings-bound}
+use Rattle.lost_bytes.proofs.Within.{lost-within}
 use Rattle.calls.proofs.Numbers.{replay-never-six}
 use Rattle.calls.proofs.AnyLog.{replayed-arranged, resumes-in-log}
 use Rattle.listing.specs.declared.Listed.the-variants.{Bytes as bytes, NoRoom as noRoom}
@@ -32,16 +33,6 @@ use Rattle.listing.proofs.Bounds.{listing-short}
 use Rattle.readout_text.specs.Card.{textBy, textFor, textIn, readoutRoom, readoutScratch, sizedText, notSized, cardText}
 use Rattle.readout_text.specs.Claims.{CardShort, NeverNoRoom, InTheBuffer}
 use Rattle.readout_text.proofs.Sizes.{log-sized}
-
--- ---- the numbers
-
-lost-counted : (xs : List ReadAnswer) → lostIn xs ≤ countedIn xs
-unfolding lostIn countedIn
-lost-counted [] = omega arith
-lost-counted (gaveRecord x ∷ xs) = omega (arith, lost-counted xs)
-lost-counted (gaveCorruption l ∷ xs) = omega (arith, lost-counted xs)
-lost-counted (gaveEnd ∷ xs) = lost-counted xs
-lost-counted (gaveRefusal n ∷ xs) = lost-counted xs
 
 -- ---- a refusal of replay
 
@@ -59,17 +50,16 @@ first-short = let l : length (refusal 1) ≡ 10 = refl in omega (arith, l)
 
 module _ (input : List ℕ) (b : Bytes input) (h : 32768 ≤ length input) (k : length input ≤ 65536) where
   abbrev lost-here : ℕ
-  lost-here = lostIn (readings input readoutScratch)
+  lost-here = lostBytes input readoutScratch
 
   abbrev place-here : ℕ
   place-here = resume input readoutScratch
 
   few-lost : lost-here < 2 ^ 64
   few-lost =
-      let q : countedIn (readings input readoutScratch) ≤ blocks input * 4681 = readings-bound input readoutScratch in
-      let l : lost-here ≤ countedIn (readings input readoutScratch) = lost-counted (readings input readoutScratch) in
+      let q : lost-here ≤ blocks input * 32768 = lost-within input readoutScratch in
       let m : blocks input ≤ 2 = omega (arith, k) in
-      omega (arith, q, l, m)
+      omega (arith, q, m)
 
   fits : LogFits place-here (length input)
   fits =
@@ -77,7 +67,7 @@ module _ (input : List ℕ) (b : Bytes input) (h : 32768 ≤ length input) (k : 
       let p : place-here ≤ blocks input * 32768 = resumes-in-log input readoutScratch (t .some) in
       record { a-block = h; few-blocks = t .most; inside = omega (arith, p) }
 
-  text-short : (o : Outcome) → replayOf input readoutRoom readoutScratch ≡ o → length (textFor (replayedBy o lost-here place-here) (length input)) ≤ 167461
+  text-short : (o : Outcome) → replayOf input readoutRoom readoutScratch ≡ o → length (textFor (replayedBy o (lostIn (readings input readoutScratch)) lost-here place-here) (length input)) ≤ 167461
   unfolding textFor textBy replayedBy queuesArranged
   text-short (refused n) e = refusal-short n (replay-never-six input readoutRoom readoutScratch .others (log-sized input h k) n e)
   text-short (left qs) e =

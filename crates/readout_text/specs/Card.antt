@@ -15,8 +15,9 @@ unfoldable pub textBy : Outcome → ℕ → ℕ → ℕ → List ℕ
 textBy (refused k) lost resumed n = refusal k
 textBy (left qs) lost resumed n = listing qs lost resumed n
 
+-- `lost` is the sum of bytes over the reading: "It replaces the count of corruption answers" (02, Ticket 7)
 unfoldable pub textFor : Replayed → ℕ → List ℕ
-textFor x n = textBy (x .outcome) (x .lost) (x .resumed) n
+textFor x n = textBy (x .outcome) (x .lost-bytes) (x .resumed) n
 
 -- the text for a log, with memory that can hold c and this many bytes of scratch
 unfoldable pub textIn : List ℕ → Capacities → ℕ → List ℕ

@@ -17,19 +17,19 @@ use Rattle.listing.specs.Listing.{refusal}
 use Rattle.readout_text.specs.declared.Numbers.{Numbers}
 use Rattle.readout_text.specs.Card.{textIn}
 
--- the numbers that replay answered, 0 and 0 where it was refused
+-- the bytes lost and the place that replay answered, 0 and 0 where it was refused
 unfoldable pub numbersOf : ReplayAnswer → Numbers
-numbersOf (replayed lost p) = record { lost = lost; resumed = p }
+numbersOf (replayed lost bytes p) = record { lost = bytes; resumed = p }
 numbersOf (replayRefused k) = record { lost = 0; resumed = 0 }
 
 -- what is answered for a buffer of n bytes that has a listing in it, where replay answered so
 unfoldable pub closedAnswer : ReplayAnswer → Listed → ℕ → Listed
-closedAnswer (replayed lost p) x n = x
+closedAnswer (replayed lost bytes p) x n = x
 closedAnswer (replayRefused k) x n = listed n (length (refusal k))
 
 -- and what is left in the buffer
 unfoldable pub closedText : ReplayAnswer → List ℕ → List ℕ
-closedText (replayed lost p) out = out
+closedText (replayed lost bytes p) out = out
 closedText (replayRefused k) out = written (zeros (length out)) 0 (refusal k)
 
 -- the memory that replay is lent: a record table of 1,024 blank entries with it

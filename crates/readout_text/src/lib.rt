@@ -5,7 +5,7 @@ mod replayed;
 
 pub use card::list_card;
 
-// What the listing takes from replay's answer: the number of corruption answers and the place where a writer resumes.
+// What the listing takes from replay's answer: the bytes lost and the place where a writer resumes.
 pub struct Numbers {
     pub lost: u64,
     pub resumed: usize,

@@ -8,13 +8,17 @@ use listing::refused;
 use read_step::ReplayAnswer;
 use slices::clear;
 
-// The numbers that replay answered; 0 and 0 where it was refused.
+// The bytes lost and the place that replay answered; 0 and 0 where it was refused.
 pub fn numbers_of(answer: ReplayAnswer) -> Numbers
     ensures { λ r. ⌜ r ≡ numbersOf answer ⌝ }
 {
     match answer {
-        ReplayAnswer::Replayed { lost, resumed } => Numbers {
-            lost: lost,
+        ReplayAnswer::Replayed {
+            lost: _,
+            lost_bytes,
+            resumed,
+        } => Numbers {
+            lost: lost_bytes as u64,
             resumed: resumed,
         },
         ReplayAnswer::Refused(_) => Numbers {

@@ -128,7 +128,11 @@ pub fn appended(answer: Called, both: bool) {
 
 pub fn replayed(answer: ReplayAnswer, queues: u64) {
     match answer {
-        ReplayAnswer::Replayed { lost, resumed } => {
+        ReplayAnswer::Replayed {
+            lost,
+            lost_bytes: _,
+            resumed,
+        } => {
             say(b" lost ", lost);
             say(b" resumed ", resumed as u64);
         }

@@ -20,7 +20,12 @@ fn replay(
 ) {
     let answer = multi_record_log::replay(log, scratch, names, payloads, entries, table);
     replayed(answer, table_word(table, 0));
-    let ReplayAnswer::Replayed { lost: _, resumed } = answer else {
+    let ReplayAnswer::Replayed {
+        lost: _,
+        lost_bytes: _,
+        resumed,
+    } = answer
+    else {
         return;
     };
     *at = resumed;

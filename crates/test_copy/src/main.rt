@@ -26,7 +26,11 @@ fn sum(label: &[u8], s: &[u8]) {
 
 fn tell_replay(answer: ReplayAnswer) {
     match answer {
-        ReplayAnswer::Replayed { lost, resumed } => number(b"replayed to ", resumed as u64),
+        ReplayAnswer::Replayed {
+            lost: _,
+            lost_bytes: _,
+            resumed,
+        } => number(b"replayed to ", resumed as u64),
         ReplayAnswer::Refused(n) => number(b"replay refused ", n),
     }
 }

@@ -109,8 +109,8 @@ fn taken(log: &[u8], end: usize, scratch: usize, queues: &Queues, memory: &Memor
     let mut own = random.bytes(scratch);
     let resumed = frames::padded(end) as u64;
     let answer = number(port::replay(log, &mut own, &mut again));
-    if answer != Ok((0, end as u64)) {
-        same("answer of replay", &answer, &Ok((0, resumed)))?;
+    if answer != Ok((0, 0, end as u64)) {
+        same("answer of replay", &answer, &Ok((0, 0, resumed)))?;
     }
     means("queues of replay", &again, queues)?;
     let garbage = random.bytes(log.len());

@@ -81,7 +81,8 @@ fn replayed(list: &List, random: &mut Random, log: Vec<u8>, lost: u64, resumed: 
     random.fill(&mut memory.entries);
     random.fill(&mut memory.table);
     let mut port = Port { log, write_position: 0, scratch: random.bytes(list.scratch), memory };
-    same("answer of replay", &number(port.replay()), &Ok((lost, resumed)))?;
+    let bytes = frames::lost_bytes(&port.log);
+    same("answer of replay", &number(port.replay()), &Ok((lost, bytes, resumed)))?;
     zero("scratch after replay", &port.scratch)?;
     means("queues of replay", &port.memory, &machine.queues)?;
     port.write_position = resumed as usize;

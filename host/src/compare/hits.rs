@@ -3,7 +3,7 @@
 use super::lists::lent;
 use super::{means, number, same, zero, Checked, Tally};
 use crate::cases::{self, List};
-use crate::frames::Frame;
+use crate::frames::{self, Frame};
 use crate::machine::{self, Listed, Machine, Room};
 use crate::oracle::{Folder, LogReader, Oracle};
 use crate::plain::{Queues, Reader, Reading};
@@ -52,7 +52,8 @@ fn one(port: &mut Port, list: &List, machine: &Machine, owner: usize, frame: Fra
     read(port, before, &after, tally)?;
     let room = Room { scratch: port.scratch.len(), ..list.room() };
     let records = before.iter().chain(after.iter().copied()).map(|listed| &listed.record);
-    replay(port, machine::replay(records, &room), folder, tally)
+    same("bytes lost, by the frames and by the text", &machine.cost(owner, frame, kind), &frames::lost_bytes(&port.log))?;
+    replay(port, machine::replay(records, &room), machine.cost(owner, frame, kind), folder, tally)
 }
 
 /// "The records listed before the hit frame's owner, one corruption, the records listed after the owner that own no struck frame, end of log."
@@ -75,7 +76,7 @@ fn read(port: &mut Port, before: &[Listed], after: &[&Listed], tally: &mut Tally
 }
 
 /// "Replay .. gives the queues or the refusal that .. give for these records alone in that memory."
-fn replay(port: &mut Port, expected: Result<Queues, u64>, folder: &Folder, tally: &mut Tally) -> Checked {
+fn replay(port: &mut Port, expected: Result<Queues, u64>, cost: u64, folder: &Folder, tally: &mut Tally) -> Checked {
     tally.count("replays");
     let mut memory = port.memory.clone();
     let answer = number(port::replay(&port.log, &mut port.scratch, &mut memory));
@@ -86,7 +87,7 @@ fn replay(port: &mut Port, expected: Result<Queues, u64>, folder: &Folder, tally
     };
     match expected {
         Ok(queues) => {
-            same("lost by replay", &answer.map(|(lost, _)| lost), &Ok(1))?;
+            same("lost by replay", &answer.map(|(lost, bytes, _)| (lost, bytes)), &Ok((1, cost)))?;
             means("queues of replay", &memory, &queues)?;
             let rust = rust().ok_or("the Rust does not open the log")?;
             same("queues of the Rust", &rust.queues(), &queues)

@@ -151,7 +151,7 @@ impl Run<'_> {
     fn reopen(&mut self, tally: &mut Tally) -> Checked {
         tally.count("replays");
         let state = resumed(&self.log);
-        same("answer of replay", &number(self.port.replay()), &Ok((0, state.place())))?;
+        same("answer of replay", &number(self.port.replay()), &Ok((0, 0, state.place())))?;
         self.rust = Oracle::open(self.folder).ok_or("the Rust does not open the log")?;
         zero("scratch", &self.port.scratch)?;
         self.port.write_position = state.place() as usize;
@@ -170,7 +170,7 @@ impl Run<'_> {
         random.fill(&mut memory.table);
         let mut scratch = random.bytes(self.list.scratch);
         let answer = number(port::replay(&self.port.log, &mut scratch, &mut memory));
-        same("answer", &answer, &Ok((0, resumed(&self.log).place())))?;
+        same("answer", &answer, &Ok((0, 0, resumed(&self.log).place())))?;
         zero("scratch", &scratch)?;
         same_bytes("log", &self.port.log, &self.log)?;
         means("queues", &memory, &self.machine.queues)?;

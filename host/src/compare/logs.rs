@@ -127,7 +127,7 @@ fn replay(case: &Log, folder: &Folder, tally: &mut Tally) -> Checked {
     zero("scratch", &port.scratch)?;
     let expected = machine::replay_log(&case.log, &case.room());
     let wraps = wraps(&case.log);
-    let (queues, lost, resumed) = match expected {
+    let (queues, lost, bytes, resumed) = match expected {
         Ok(given) => given,
         Err(refusal) => {
             tally.refusal(refusal);
@@ -141,7 +141,13 @@ fn replay(case: &Log, folder: &Folder, tally: &mut Tally) -> Checked {
             return same("whether the Rust opens the log", &Oracle::open(folder).is_some(), &false);
         }
     };
-    same("answer", &answer, &Ok((lost, resumed)))?;
+    same("answer", &answer, &Ok((lost, bytes, resumed)))?;
+    if bytes > 0 {
+        tally.count("logs with bytes lost");
+    }
+    if bytes > 0 && lost == 0 {
+        tally.count("of them with no corruption answer");
+    }
     means("queues", &port.memory, &queues)?;
     if wraps {
         tally.count("replays set aside");

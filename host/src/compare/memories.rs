@@ -195,8 +195,8 @@ fn replay(port: &mut Port, tally: &mut Tally) -> Checked {
             same("replay", &answer, &Err(refusal.to_string()))?;
             Queues::new()
         }
-        Ok((queues, lost, resumed)) => {
-            same("replay", &answer, &Ok((lost, resumed)))?;
+        Ok((queues, lost, bytes, resumed)) => {
+            same("replay", &answer, &Ok((lost, bytes, resumed)))?;
             queues
         }
     };

@@ -42,7 +42,7 @@ returns : tie.Need-returns
 returns c =
     let y = c .before .before .before .before .before .before .before .before .before .before .before .before .before .before .before .before .before .before .before .before .before .before .before .before in
     let a = c .before .before .before .before .before .before .before .before .before .before .before .before .before .before .before .before .before .before .before .before .before .before .before .before .before .before .before .before .before .before .before .before .before .before .before .before .before .args in
-    copied-as _ _ _ _ _ _ (y .replay .ensures .kept) (a .target .now) _ _ (c .before .before .before .before .before .before .before .before .before .before .before .before .enum-told .given .1) _ _ _ (c .before .before .before .before .before .copy .ensures) (search needs) (c .written .ensures)
+    copied-as _ _ _ _ _ _ (y .replay .ensures .kept) (a .target .now) _ _ _ (c .before .before .before .before .before .before .before .before .before .before .before .before .enum-told .given .1) _ _ _ (c .before .before .before .before .before .copy .ensures) (search needs) (c .written .ensures)
 
 same-length-7 : tie.Need-same-length-7
 same-length-7 c = search needs
