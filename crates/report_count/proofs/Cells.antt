@@ -1,6 +1,6 @@
 -- One frame counted in the table: its own cell is one more, every other stays, and four rows of two stay.
 -- Assumes nothing.
-use mathlib.Core.Path.{_≡_, refl, sym, ap, _∙_}
+use mathlib.Core.Path.{_≡_, refl, sym, ap, ap₂, _∙_}
 use mathlib.Core.Bool.{Bool, true, false}
 use mathlib.Core.List.{List, [], _∷_}
 use Prim.Native.Nat.{ℕ, zero, suc, _+_, _<_}
@@ -129,3 +129,13 @@ table-shaped ws = record { rows = refl; sides = sides }
     sides (suc (suc zero)) h = refl
     sides (suc (suc (suc zero))) h = refl
     sides (suc (suc (suc (suc k)))) h = omega arith
+
+-- a cell, and a cell counted, by the row and the place in it that the code has
+pub cell-by : (t : List (List ℕ)) (i j k : ℕ) (b : Bool) → i ≡ k → j ≡ side b → getD (getD t i []) j 0 ≡ cell t k b
+unfolding cell
+cell-by t i j k b ei ej = ap₂ (λ (i j : ℕ). getD (getD t i []) j 0) ei ej
+
+pub counted-by : (t : List (List ℕ)) (i j k : ℕ) (b : Bool) → i ≡ k → j ≡ side b
+    → set t i (set (getD t i []) j (getD (getD t i []) j 0 + 1)) ≡ counted t k b
+unfolding counted cell
+counted-by t i j k b ei ej = ap₂ (λ (i j : ℕ). set t i (set (getD t i []) j (getD (getD t i []) j 0 + 1))) ei ej

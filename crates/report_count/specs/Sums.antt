@@ -7,4 +7,4 @@ use Prim.Native.Nat.{ℕ, _+_}
 unfoldable pub plus : List ℕ → List ℕ → List ℕ
 plus [] ys = ys
 plus (x ∷ xs) [] = x ∷ xs
-plus (x ∷ xs) (y ∷ ys) = x + y ∷ plus xs ys
+plus (x ∷ xs) (y ∷ ys) = (x + y) ∷ plus xs ys
