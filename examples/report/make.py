@@ -192,5 +192,11 @@ def main():
     e = edges()
     write('test_report/stdin', e.stdin)
     write('test_report/stdout', e.stdout)
+    names = 'example.bin', 'bad-type.bin', 'wrong-checksum.bin'
+    cards = [(n, open(os.path.join(here, '..', 'cards', n), 'rb').read()) for n in names]
+    cards[1:1] = [('short.bin', bytes(100)), ('long.bin', bytes(2 * BLOCK + 1))]
+    for name, card in cards: write('boxreport/data/' + name, card)
+    write('boxreport/args', ''.join(n + '\n' for n, _ in cards))
+    write('boxreport/stdout', box(cards))
 
 main()

@@ -1,82 +1,8 @@
 // Lists the card on standard input: the whole of it is read, a byte more than a card may have at most, and the library's text is written. A read or a write
 // that fails is said on standard error, and where the input could not be read to its end nothing is listed.
-ghost use Prim.Native.Nat.{_≤_};
-ghost use lib.ListN.{length};
-ghost use Rattle.io.specs.Counts.{Counts};
+use card_input::State;
+use card_input::read_card;
 use listing::Listed;
-
-// Whether the input may have more, has ended, or could not be read.
-enum State {
-    Going,
-    Ended,
-    Failed,
-}
-
-// How many bytes of the input stand at the start of the buffer.
-struct Reading {
-    bytes: usize,
-    state: State,
-}
-
-// What a read that answered -1 means: a signal cut it before a byte came, and it is done again, or it failed.
-fn cut_or_failed(error: i32) -> State {
-    if error == libc::EINTR {
-        State::Going
-    } else {
-        State::Failed
-    }
-}
-
-// One read, after the first `from` bytes. A full buffer ends the input: nothing more is asked for.
-fn read_on(input: &mut [u8], from: usize) -> Reading
-    ensures { λ r. ⌜ r .«bytes» ≤ length (now (input .exit)) ⌝ }
-{
-    if input.len() < from {
-        return Reading {
-            bytes: 0,
-            state: State::Failed,
-        };
-    }
-    let got = libc::read(libc::STDIN_FILENO, &mut input[from..]);
-    if got < 0 {
-        return Reading {
-            bytes: from,
-            state: cut_or_failed(os::errno()),
-        };
-    }
-    if got == 0 {
-        return Reading {
-            bytes: from,
-            state: State::Ended,
-        };
-    }
-    let n = io::count(got, &input[from..]);
-    Reading {
-        bytes: from + n,
-        state: State::Going,
-    }
-}
-
-// The input to its end, or as much of it as the buffer takes. Nothing says that an input ends, so the turns are counted down from a number that no run uses up.
-fn read_input(input: &mut [u8]) -> Reading
-    ensures { λ r. ⌜ Counts (r .«bytes») (now (input .exit)) ⌝ }
-{
-    let mut bytes = 0;
-    let mut turns = u64::MAX;
-    while 0 < turns {
-        let reading = read_on(input, bytes);
-        let state = reading.state;
-        let State::Going = state else {
-            return reading;
-        };
-        bytes = reading.bytes;
-        turns -= 1;
-    }
-    Reading {
-        bytes: 0,
-        state: State::Failed,
-    }
-}
 
 fn show(input: &[u8]) {
     let mut out = [0u8; 167461];
@@ -90,7 +16,7 @@ fn show(input: &[u8]) {
 
 fn main() {
     let mut input = [0u8; 65537];
-    let reading = read_input(&mut input);
+    let reading = read_card(libc::STDIN_FILENO, &mut input);
     let n = reading.bytes;
     let state = reading.state;
     let State::Ended = state else {
