@@ -1,6 +1,6 @@
 -- One frame counted in the table: its own cell is one more, every other stays, and four rows of two stay.
 -- Assumes nothing.
-use mathlib.Core.Path.{_≡_, refl, sym, ap, ap₂, _∙_}
+use mathlib.Core.Path.{_≡_, refl, sym, ap, _∙_}
 use mathlib.Core.Bool.{Bool, true, false}
 use mathlib.Core.List.{List, [], _∷_}
 use Prim.Native.Nat.{ℕ, zero, suc, _+_, _<_}
@@ -15,7 +15,7 @@ use Rattle.frame.specs.declared.FrameType.the-variants.{Full as full, First as 
 use Rattle.report_frames.specs.declared.Seen.{Seen}
 use Rattle.report_frames.specs.declared.Seen.the-variants.{Right as right, Wrong as wrong, Unreadable as unreadable, OverLong as overLong, EndOfLog as endOfLog}
 use Rattle.report_frames.specs.Tally.{rowOf, isRight, isWrong, isOf, one}
-use Rattle.report_count.specs.Table.{side, cell, counted, countSeen, tableOf, Shaped}
+use Rattle.report_count.specs.Table.{side, cell, counted, countSeen, tableOf, Shaped, CellsFit}
 
 pub row-small : (u : FrameType) → rowOf u < 4
 unfolding rowOf
@@ -130,12 +130,18 @@ table-shaped ws = record { rows = refl; sides = sides }
     sides (suc (suc (suc zero))) h = refl
     sides (suc (suc (suc (suc k)))) h = omega arith
 
--- a cell, and a cell counted, by the row and the place in it that the code has
-pub cell-by : (t : List (List ℕ)) (i j k : ℕ) (b : Bool) → i ≡ k → j ≡ side b → getD (getD t i []) j 0 ≡ cell t k b
+-- the place of a frame that is right, and of one that is wrong, as the code has it
+pub cell-fits : (t : List (List ℕ)) (k j : ℕ) (b : Bool) → j ≡ side b → CellsFit t → k < 4
+    → (k < 4) × (j < 2) × (getD (getD t k []) j 0 < 18446744073709551615)
 unfolding cell
-cell-by t i j k b ei ej = ap₂ (λ (i j : ℕ). getD (getD t i []) j 0) ei ej
+cell-fits t k j b e h l =
+    (l, omega (arith, side-small b), omega (arith, h k b l, ap (λ (i : ℕ). getD (getD t k []) i 0) e))
 
-pub counted-by : (t : List (List ℕ)) (i j k : ℕ) (b : Bool) → i ≡ k → j ≡ side b
-    → set t i (set (getD t i []) j (getD (getD t i []) j 0 + 1)) ≡ counted t k b
+pub counted-at : (t : List (List ℕ)) (k j : ℕ) (b c : Bool) → j ≡ side b → c ≡ b
+    → set t k (set (getD t k []) j (getD (getD t k []) j 0 + 1)) ≡ counted t k c
 unfolding counted cell
-counted-by t i j k b ei ej = ap₂ (λ (i j : ℕ). set t i (set (getD t i []) j (getD (getD t i []) j 0 + 1))) ei ej
+counted-at t k j b c e f =
+    ap (λ (i : ℕ). set t k (set (getD t k []) i (getD (getD t k []) i 0 + 1))) e ∙ ap (λ (d : Bool). counted t k d) (sym f)
+
+pub counted-row : (t : List (List ℕ)) (k : ℕ) (b : Bool) (u v : FrameType) → k ≡ rowOf v → u ≡ v → counted t k b ≡ counted t (rowOf u) b
+counted-row t k b u v e f = ap (λ (i : ℕ). counted t i b) (e ∙ ap rowOf (sym f))

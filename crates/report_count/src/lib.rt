@@ -1,13 +1,14 @@
 // A log's frames counted: the table of counts, an array of arrays, is passed by value through the step that counts one frame.
 ghost use mathlib.Core.Path.{_≡_};
 ghost use Prim.Native.Nat.{_+_, _≤_, _<_};
-ghost use lib.ListN.{length};
+ghost use mathlib.Core.List.{[]};
+ghost use lib.ListN.{length, getD, set};
 ghost use Rattle.crc32.specs.Wide.{TableReady};
 ghost use Rattle.frame.specs.Block.{blocks};
 ghost use Rattle.report_frames.specs.Seen.{isEnd, framesRead};
 ghost use Rattle.report_frames.specs.Tally.{rowOf, tally};
 ghost use Rattle.report_count.specs.Sums.{plus};
-ghost use Rattle.report_count.specs.Table.{side, cell, counted, countSeen, countOthers, tableOf, othersOf, numbersOf};
+ghost use Rattle.report_count.specs.Table.{counted, countSeen, countOthers, tableOf, othersOf, numbersOf};
 ghost use Rattle.report_count.specs.Table.{CellsFit, OthersFit, NumbersFit};
 use frame::FrameType;
 use frame::Reader;
@@ -21,34 +22,39 @@ pub struct Others {
     pub data: u64,
 }
 
-// Where the counts of right and of wrong frames stand in a row.
-fn side_of(right: bool) -> usize
-    ensures { λ r. ⌜ r ≡ side right ⌝ }
+// One more at a row and a place in it.
+fn count_at(table: [[u64; 2]; 4], k: usize, j: usize) -> [[u64; 2]; 4]
+    requires { ⌜ (k < 4) × (j < 2) × (getD (getD table k []) j 0 < 18446744073709551615) ⌝ }
+    ensures { λ r. ⌜ r ≡ set table k (set (getD table k []) j (getD (getD table k []) j 0 + 1)) ⌝ }
 {
-    if right { 0 } else { 1 }
+    let mut t = table;
+    t[k][j] += 1;
+    t
 }
 
-fn row_of(kind: FrameType) -> usize
-    ensures { λ r. ⌜ r ≡ rowOf kind ⌝ }
+// One frame more of a row.
+fn count_row(table: [[u64; 2]; 4], k: usize, right: bool) -> [[u64; 2]; 4]
+    requires { ⌜ (k < 4) × CellsFit table ⌝ }
+    ensures { λ r. ⌜ r ≡ counted table k right ⌝ }
 {
-    match kind {
-        FrameType::Full => 0,
-        FrameType::First => 1,
-        FrameType::Middle => 2,
-        FrameType::Last => 3,
+    if right {
+        count_at(table, k, 0)
+    } else {
+        count_at(table, k, 1)
     }
 }
 
-// One frame more of this type.
+// One frame more of this type. The rows are constants, so that the table stays in registers.
 fn count(table: [[u64; 2]; 4], kind: FrameType, right: bool) -> [[u64; 2]; 4]
     requires { ⌜ CellsFit table ⌝ }
     ensures { λ r. ⌜ r ≡ counted table (rowOf kind) right ⌝ }
 {
-    let k = row_of(kind);
-    let j = side_of(right);
-    let mut t = table;
-    t[k][j] += 1;
-    t
+    match kind {
+        FrameType::Full => count_row(table, 0, right),
+        FrameType::First => count_row(table, 1, right),
+        FrameType::Middle => count_row(table, 2, right),
+        FrameType::Last => count_row(table, 3, right),
+    }
 }
 
 // The table after a frame.
