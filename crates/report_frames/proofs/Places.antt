@@ -50,8 +50,11 @@ pub corrupt-is : (k : TypeByte) (s : Seen) (c d : Corruption) → s ≡ seenAs k
 corrupt-is k s c d e f = e ∙ ap (λ (x : Corruption). seenAs k (corrupt x)) (sym f)
 
 -- the frame seen
-pub seen-is : (log : List ℕ) (r : Reader) (x : FrameRead) (k : TypeByte) (s : Seen) → x ≡ readFrame log r → k ≡ typeSaid log r → s ≡ seenAs k (x .answer)
+pub corrupt-seen : (k l : TypeByte) (s : Seen) (c : Corruption) (a : FrameAnswer) → k ≡ l → s ≡ seenAs k (corrupt c) → a ≡ corrupt c → s ≡ seenAs l a
+corrupt-seen k l s c a ek es ea = es ∙ ap₂ seenAs ek (sym ea)
+
+pub seen-is : (log : List ℕ) (r : Reader) (x : FrameRead) (s : Seen) → x ≡ readFrame log r → s ≡ seenAs (typeSaid log r) (x .answer)
     → (s ≡ seen log r) × (x .reader ≡ readFrame log r .reader)
 unfolding seen
-seen-is log r x k s ex ek es =
-    (es ∙ ap₂ (λ (k : TypeByte) (y : FrameRead). seenAs k (y .answer)) ek ex, ap (λ (y : FrameRead). y .reader) ex)
+seen-is log r x s ex es =
+    (es ∙ ap (λ (y : FrameRead). seenAs (typeSaid log r) (y .answer)) ex, ap (λ (y : FrameRead). y .reader) ex)

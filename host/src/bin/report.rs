@@ -213,7 +213,7 @@ fn compared(logs: usize, seed: u64) -> Result<(), String> {
     let mut sums = [0; 12];
     let mut report = vec![0; 96];
     for _ in 0..logs {
-        if random.once_in(12) {
+        if random.once_in(40) {
             report = some_report(&mut random);
         }
         let log = some_log(&mut random);

@@ -21,46 +21,52 @@ array-read-frames-2 : tie.Need-array-read-frames-2
 array-read-frames-2 c = search needs
 
 add-frames : tie.Need-add-frames
-add-frames c = 
-    omega
-    (arith, numbers-small _ _ (c .before .before .pre) (c .numbers-in .ensures) 1,
-    numbers-small _ _ (c .before .before .pre) (c .numbers-in .ensures) 2,
-    numbers-small _ _ (c .before .before .pre) (c .numbers-in .ensures) 3,
-    numbers-small _ _ (c .before .before .pre) (c .numbers-in .ensures) 4,
-    numbers-small _ _ (c .before .before .pre) (c .numbers-in .ensures) 5,
-    numbers-small _ _ (c .before .before .pre) (c .numbers-in .ensures) 6,
-    numbers-small _ _ (c .before .before .pre) (c .numbers-in .ensures) 7,
-    numbers-small _ _ (c .before .before .pre) (c .numbers-in .ensures) 8)
+add-frames c =
+    omega (
+      arith,
+      numbers-small _ _ (c .before .before .pre) (c .numbers-in .ensures) 1,
+      numbers-small _ _ (c .before .before .pre) (c .numbers-in .ensures) 2,
+      numbers-small _ _ (c .before .before .pre) (c .numbers-in .ensures) 3,
+      numbers-small _ _ (c .before .before .pre) (c .numbers-in .ensures) 4,
+      numbers-small _ _ (c .before .before .pre) (c .numbers-in .ensures) 5,
+      numbers-small _ _ (c .before .before .pre) (c .numbers-in .ensures) 6,
+      numbers-small _ _ (c .before .before .pre) (c .numbers-in .ensures) 7,
+      numbers-small _ _ (c .before .before .pre) (c .numbers-in .ensures) 8,
+    )
 
 array-read-frames-3 : tie.Need-array-read-frames-3
 array-read-frames-3 c = search needs
 
 add-frames-2 : tie.Need-add-frames-2
-add-frames-2 c = 
-    omega
-    (arith, numbers-small _ _ (c .before .before .pre) (c .numbers-in .ensures) 1,
-    numbers-small _ _ (c .before .before .pre) (c .numbers-in .ensures) 2,
-    numbers-small _ _ (c .before .before .pre) (c .numbers-in .ensures) 3,
-    numbers-small _ _ (c .before .before .pre) (c .numbers-in .ensures) 4,
-    numbers-small _ _ (c .before .before .pre) (c .numbers-in .ensures) 5,
-    numbers-small _ _ (c .before .before .pre) (c .numbers-in .ensures) 6,
-    numbers-small _ _ (c .before .before .pre) (c .numbers-in .ensures) 7,
-    numbers-small _ _ (c .before .before .pre) (c .numbers-in .ensures) 8)
+add-frames-2 c =
+    omega (
+      arith,
+      numbers-small _ _ (c .before .before .pre) (c .numbers-in .ensures) 1,
+      numbers-small _ _ (c .before .before .pre) (c .numbers-in .ensures) 2,
+      numbers-small _ _ (c .before .before .pre) (c .numbers-in .ensures) 3,
+      numbers-small _ _ (c .before .before .pre) (c .numbers-in .ensures) 4,
+      numbers-small _ _ (c .before .before .pre) (c .numbers-in .ensures) 5,
+      numbers-small _ _ (c .before .before .pre) (c .numbers-in .ensures) 6,
+      numbers-small _ _ (c .before .before .pre) (c .numbers-in .ensures) 7,
+      numbers-small _ _ (c .before .before .pre) (c .numbers-in .ensures) 8,
+    )
 
 array-read-frames-4 : tie.Need-array-read-frames-4
 array-read-frames-4 c = search needs
 
 add-frames-3 : tie.Need-add-frames-3
-add-frames-3 c = 
-    omega
-    (arith, numbers-small _ _ (c .before .before .pre) (c .numbers-in .ensures) 1,
-    numbers-small _ _ (c .before .before .pre) (c .numbers-in .ensures) 2,
-    numbers-small _ _ (c .before .before .pre) (c .numbers-in .ensures) 3,
-    numbers-small _ _ (c .before .before .pre) (c .numbers-in .ensures) 4,
-    numbers-small _ _ (c .before .before .pre) (c .numbers-in .ensures) 5,
-    numbers-small _ _ (c .before .before .pre) (c .numbers-in .ensures) 6,
-    numbers-small _ _ (c .before .before .pre) (c .numbers-in .ensures) 7,
-    numbers-small _ _ (c .before .before .pre) (c .numbers-in .ensures) 8)
+add-frames-3 c =
+    omega (
+      arith,
+      numbers-small _ _ (c .before .before .pre) (c .numbers-in .ensures) 1,
+      numbers-small _ _ (c .before .before .pre) (c .numbers-in .ensures) 2,
+      numbers-small _ _ (c .before .before .pre) (c .numbers-in .ensures) 3,
+      numbers-small _ _ (c .before .before .pre) (c .numbers-in .ensures) 4,
+      numbers-small _ _ (c .before .before .pre) (c .numbers-in .ensures) 5,
+      numbers-small _ _ (c .before .before .pre) (c .numbers-in .ensures) 6,
+      numbers-small _ _ (c .before .before .pre) (c .numbers-in .ensures) 7,
+      numbers-small _ _ (c .before .before .pre) (c .numbers-in .ensures) 8,
+    )
 
 array-read-mean-of : tie.Need-array-read-mean-of
 array-read-mean-of c = search needs
