@@ -14,9 +14,9 @@ use Rattle.calls.proofs.Chain.{lowest-of}
 use Rattle.abi_queues.specs.Words.{wordsFrom}
 use Rattle.report_count.specs.Sums.{plus}
 use Rattle.report.specs.declared.MeanAnswer.the-variants.{Refused as noMean}
-use Rattle.report.specs.Layout.{reportNumbers, emptyReport, mostLogs, allWithin, numbersArranged, reportArranged}
+use Rattle.report.specs.Layout.{reportNumbers, mostLogs, allWithin, numbersArranged, reportArranged}
 use Rattle.report.specs.Feed.{feedRefusals, feedRefusal, feedLeft, meanOf, soundFrames, meanAnswer}
-use Rattle.report.specs.Claims.{feedAll, logsKept, sums, logsSized, soundSum, dataSum}
+use Rattle.report.specs.Claims.{emptyReport, feedAll, logsKept, sums, logsSized, soundSum, dataSum}
 use Rattle.report.specs.Claims.{ReportSums, ReportKept, ReportNext, ReportMean, ReportArranged, ReportBound, ReportLowestFirst, ReportMeets, ReportRefused, ReportExamples}
 use Rattle.report.proofs.Bounds.{ok-small}
 use Rattle.report.proofs.Refusing.{length-numbers, feed-rises, refusal-is, report-ok, feed-passed}

@@ -9,6 +9,7 @@ use lib.Dec.{eqb}
 use lib.ListN.{length, getD, drop, length-drop}
 use lib.Seq.{drop-length}
 use borrow.Author.Tests.{eq-eqb}
+use Rattle.fields.specs.Le.{leBytes}
 use Rattle.queues.proofs.Both.{both}
 use Rattle.abi_queues.specs.Words.{wordsFrom}
 use Rattle.abi_queues.specs.Packing.{wordBytes, WordsStored}
@@ -19,7 +20,7 @@ use Rattle.report_count.specs.Sums.{plus}
 use Rattle.report_count.specs.Table.{NumbersFit}
 use Rattle.report.specs.declared.FeedAnswer.{FeedAnswer}
 use Rattle.report.specs.declared.FeedAnswer.the-variants.{Fed as fed, Refused as refused}
-use Rattle.report.specs.Layout.{reportNumbers, mostLogs, numbersArranged, reportArranged}
+use Rattle.report.specs.Layout.{reportNumbers, numberBytes, mostLogs, numbersArranged, reportArranged}
 use Rattle.report.specs.Internal.{NumbersOk}
 use Rattle.report.specs.Feed.{feedRefusal, feedAnswerBy, feedAnswer, fedReport, feedLeftBy, feedLeft, feedNumber, meanOf, soundFrames, meanAnswer}
 use Rattle.report.specs.declared.MeanAnswer.{MeanAnswer}
@@ -51,6 +52,11 @@ refused-by report log (suc n) e h = (ap feedAnswerBy e, ap (λ (n : ℕ). feedLe
 
 -- ---- a log counted in
 
+same-bytes : (ws : List ℕ) → numberBytes ws ≡ wordBytes ws
+unfolding numberBytes wordBytes
+same-bytes [] = refl
+same-bytes (w ∷ ws) = ap (λ (l : List ℕ). leBytes 8 w ++ l) (same-bytes ws)
+
 module _ (report log : List ℕ) (p : FeedPassed report log) where
   fed-numbers-ok : NumbersOk (plus (reportNumbers report) (tally (framesRead log)))
   fed-numbers-ok = fed-ok (reportNumbers report) log (p .ok .numbers) (p .room) (p .sized .some) (p .sized .most)
@@ -67,7 +73,7 @@ module _ (report log : List ℕ) (p : FeedPassed report log) where
   pub fed-numbers : reportNumbers (fedReport report log) ≡ plus (reportNumbers report) (tally (framesRead log))
   unfolding reportNumbers fedReport
   fed-numbers =
-      ap (wordsFrom 12) (sym (append-nil (wordBytes ws)))
+      ap (wordsFrom 12) (same-bytes ws ∙ sym (append-nil (wordBytes ws)))
       ∙ ap (λ (n : ℕ). wordsFrom n (wordBytes ws ++ [])) (sym fed-long)
       ∙ words-back ws [] (λ i. omega (arith, ok-small ws fed-long fed-numbers-ok i))
     where
@@ -76,7 +82,7 @@ module _ (report log : List ℕ) (p : FeedPassed report log) where
 
   pub fed-length : length (fedReport report log) ≡ 96
   unfolding fedReport
-  fed-length = omega (arith, length-wordBytes (plus (reportNumbers report) (tally (framesRead log))), fed-long)
+  fed-length = omega (arith, ap length (same-bytes (plus (reportNumbers report) (tally (framesRead log)))), length-wordBytes (plus (reportNumbers report) (tally (framesRead log))), fed-long)
 
   pub fed-arranged : reportArranged (fedReport report log) ≡ true
   unfolding reportArranged
@@ -98,7 +104,8 @@ module _ (report log : List ℕ) (p : FeedPassed report log) where
         = omega (arith, ap length ew, ap (λ (l : List ℕ). length (plus l (tally (framesRead log)))) en, fed-long, p .ok .long) in z)
         ∙ drop-length report)
         ∙ append-nil (wordBytes ws)
-        ∙ ap wordBytes (ew ∙ ap (λ (l : List ℕ). plus l (tally (framesRead log))) en)
+        ∙ sym (same-bytes ws)
+        ∙ ap numberBytes (ew ∙ ap (λ (l : List ℕ). plus l (tally (framesRead log))) en)
 
 -- ---- numbers and means
 

@@ -17,7 +17,7 @@ use Rattle.report_frames.specs.Seen.{framesRead}
 use Rattle.report_frames.specs.Tally.{rowOf, isRight, one, times, dataBytes, tally}
 use Rattle.report_count.specs.Sums.{plus}
 use Rattle.report_count.proofs.Plus.{getD-plus, length-plus, plus-assoc}
-use Rattle.report.specs.Layout.{reportNumbers, emptyReport, mostLogs, reportArranged}
+use Rattle.report.specs.Layout.{reportNumbers, mostLogs, reportArranged}
 use Rattle.report.specs.Feed.{feedRefusal, fedReport, feedLeft, soundFrames}
 use Rattle.report.specs.Claims.{feedAll, keptBy, logsKept, sums, logsSized, isSound, soundSum, dataSum}
 use Rattle.report.proofs.Bounds.{length-tally}

@@ -8,6 +8,7 @@ use mathlib.Core.List.{List, [], _∷_}
 use Prim.Native.Nat.{ℕ, zero, suc, _+_, _*_, _≤_, _<_, _^_}
 use lib.Dec.{leb}
 use lib.ListN.{length, getD, take, replicate}
+use Rattle.slices.specs.Bytes.{zeros}
 use Rattle.calls.specs.Refusals.{refuseIf, logRefused}
 use Rattle.calls.specs.Claims.{LowestOf}
 use Rattle.report_frames.specs.declared.Seen.{Seen}
@@ -16,10 +17,14 @@ use Rattle.report_frames.specs.Seen.{framesRead}
 use Rattle.report_frames.specs.Tally.{times, dataBytes, tally}
 use Rattle.report_count.specs.Sums.{plus}
 use Rattle.report.specs.declared.MeanAnswer.the-variants.{Mean as mean, Nothing as nothing}
-use Rattle.report.specs.Layout.{reportNumbers, emptyReport, mostLogs, numbersArranged, reportArranged}
+use Rattle.report.specs.Layout.{reportLength, reportNumbers, mostLogs, numbersArranged, reportArranged}
 use Rattle.report.specs.Feed.{feedRefusals, feedRefusal, feedLeft, meanOf, meanAnswer}
 
 -- ---- feedings
+
+-- zeros are the empty report
+abbrev pub emptyReport : List ℕ
+emptyReport = zeros reportLength
 
 -- "each feeding given what the last left"
 unfoldable pub feedAll : List ℕ → List (List ℕ) → List ℕ

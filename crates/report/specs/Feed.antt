@@ -6,7 +6,6 @@ use mathlib.Core.List.{List, [], _∷_}
 use Prim.Native.Nat.{ℕ, zero, suc, _+_, _/_, _%_}
 use lib.Dec.{leb}
 use lib.ListN.{getD}
-use Rattle.abi_queues.specs.Packing.{wordBytes}
 use Rattle.calls.specs.Refusals.{Refusal, refuse, firstRefusal, logRefused}
 use Rattle.report_frames.specs.Seen.{framesRead}
 use Rattle.report_frames.specs.Tally.{tally}
@@ -15,7 +14,7 @@ use Rattle.report.specs.declared.FeedAnswer.{FeedAnswer}
 use Rattle.report.specs.declared.FeedAnswer.the-variants.{Fed as fed, Refused as refused}
 use Rattle.report.specs.declared.MeanAnswer.{MeanAnswer}
 use Rattle.report.specs.declared.MeanAnswer.the-variants.{Mean as mean, Nothing as nothing, Refused as noMean}
-use Rattle.report.specs.Layout.{reportNumbers, mostLogs, reportArranged}
+use Rattle.report.specs.Layout.{reportNumbers, numberBytes, mostLogs, reportArranged}
 
 -- ---- feeding
 
@@ -40,7 +39,7 @@ feedAnswer report log = feedAnswerBy (feedRefusal report log)
 
 -- the report with this log counted in
 unfoldable pub fedReport : List ℕ → List ℕ → List ℕ
-fedReport report log = wordBytes (plus (reportNumbers report) (tally (framesRead log)))
+fedReport report log = numberBytes (plus (reportNumbers report) (tally (framesRead log)))
 
 -- "every refusal leaves the report unchanged"
 unfoldable pub feedLeftBy : ℕ → List ℕ → List ℕ → List ℕ

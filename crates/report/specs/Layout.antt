@@ -2,11 +2,11 @@
 -- A report as bytes, and when it is arranged: "A report that isn't as docs/LAYOUT.md defines is 6".
 -- Assumes nothing.
 use mathlib.Core.Bool.{Bool, true, false, _&&_}
-use mathlib.Core.List.{List, [], _∷_}
+use mathlib.Core.List.{List, [], _∷_, _++_}
 use Prim.Native.Nat.{ℕ, _*_}
 use lib.Dec.{leb, eqb}
 use lib.ListN.{length, getD, take, drop}
-use Rattle.slices.specs.Bytes.{zeros}
+use Rattle.fields.specs.Le.{leBytes}
 use Rattle.abi_queues.specs.Words.{wordsFrom}
 
 -- twelve numbers of 8 bytes: logs fed; right and wrong of Full, First, Middle, Last; unreadable headers; over-long frames; bytes of data in sound frames
@@ -16,8 +16,10 @@ reportLength = 96
 unfoldable pub reportNumbers : List ℕ → List ℕ
 reportNumbers report = wordsFrom 12 report
 
-abbrev pub emptyReport : List ℕ
-emptyReport = zeros reportLength
+-- the bytes of numbers
+unfoldable pub numberBytes : List ℕ → List ℕ
+numberBytes [] = []
+numberBytes (n ∷ ns) = leBytes 8 n ++ numberBytes ns
 
 -- the logs that a report takes ("17 when a 65,536th log is fed")
 abbrev pub mostLogs : ℕ

@@ -14,8 +14,8 @@ use Rattle.frame.specs.declared.FrameType.{FrameType}
 use Rattle.frame.specs.declared.FrameType.the-variants.{Full as full, First as first, Middle as middle, Last as last}
 use Rattle.report_frames.specs.declared.Seen.{Seen}
 use Rattle.report_frames.specs.declared.Seen.the-variants.{Right as right, Wrong as wrong, Unreadable as unreadable, OverLong as overLong, EndOfLog as endOfLog}
-use Rattle.report_frames.specs.Tally.{rowOf, isRight, isWrong, isOf, one}
-use Rattle.report_count.specs.Table.{side, cell, counted, countSeen, tableOf, Shaped, CellsFit}
+use Rattle.report_frames.specs.Tally.{rowOf, isRight, isWrong, one}
+use Rattle.report_count.specs.Table.{isOf, side, cell, counted, countSeen, tableOf, Shaped, CellsFit}
 
 pub row-small : (u : FrameType) → rowOf u < 4
 unfolding rowOf

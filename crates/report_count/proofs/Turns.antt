@@ -15,12 +15,12 @@ use Rattle.frame.specs.Internal.{Arranged}
 use Rattle.report_frames.specs.declared.Seen.{Seen}
 use Rattle.report_frames.specs.declared.Seen.the-variants.{Right as right, Wrong as wrong, Unreadable as unreadable, OverLong as overLong, EndOfLog as endOfLog}
 use Rattle.report_frames.specs.Seen.{seen, isEnd, framesAhead, framesRead}
-use Rattle.report_frames.specs.Tally.{isRight, isWrong, isOf, isUnreadable, isOverLong, dataIn, one, times, dataBytes, tally}
+use Rattle.report_frames.specs.Tally.{isRight, isWrong, isUnreadable, isOverLong, dataIn, one, times, dataBytes, tally}
 use Rattle.report_frames.proofs.Ahead.{left-arranged, fewer, none-ahead, one-ahead}
 use Rattle.report_frames.proofs.Claims.{fresh-arranged}
 use Rattle.report_count.specs.declared.Others.{Others}
 use Rattle.report_count.specs.Sums.{plus}
-use Rattle.report_count.specs.Table.{side, cell, countSeen, countOthers, tableOf, othersOf, numbersOf, Shaped, CellsFit, OthersFit, NumbersFit}
+use Rattle.report_count.specs.Table.{isOf, side, cell, countSeen, countOthers, tableOf, othersOf, numbersOf, Shaped, CellsFit, OthersFit, NumbersFit}
 use Rattle.report_count.proofs.Cells.{seen-counted, seen-shaped, table-shaped}
 use Rattle.report_count.proofs.Plus.{getD-plus, length-plus}
 

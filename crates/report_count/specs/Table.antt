@@ -9,7 +9,7 @@ use lib.ListN.{length, getD, set}
 use Rattle.report_frames.specs.declared.Seen.{Seen}
 use Rattle.report_frames.specs.declared.Seen.the-variants.{Right as right, Wrong as wrong, Unreadable as unreadable, OverLong as overLong, EndOfLog as endOfLog}
 use Rattle.report_frames.specs.Seen.{framesRead}
-use Rattle.report_frames.specs.Tally.{rowOf, dataIn, tally}
+use Rattle.report_frames.specs.Tally.{rowOf, isRight, isWrong, dataIn, tally}
 use Rattle.report_count.specs.declared.Others.{Others}
 use Rattle.report_count.specs.Sums.{plus}
 
@@ -20,6 +20,11 @@ side false = 1
 -- the count of right, or of wrong, frames of a row
 unfoldable pub cell : List (List ℕ) → ℕ → Bool → ℕ
 cell t k b = getD (getD t k []) (side b) 0
+
+-- is a frame counted in this cell
+unfoldable pub isOf : ℕ → Bool → Seen → Bool
+isOf k true s = isRight k s
+isOf k false s = isWrong k s
 
 -- one more
 unfoldable pub counted : List (List ℕ) → ℕ → Bool → List (List ℕ)

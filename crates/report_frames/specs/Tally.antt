@@ -33,11 +33,6 @@ isWrong k unreadable = false
 isWrong k overLong = false
 isWrong k endOfLog = false
 
--- the two columns
-unfoldable pub isOf : ℕ → Bool → Seen → Bool
-isOf k true s = isRight k s
-isOf k false s = isWrong k s
-
 unfoldable pub isUnreadable : Seen → Bool
 isUnreadable (right t n) = false
 isUnreadable (wrong t) = false

@@ -107,7 +107,8 @@ pub fn list_report(report: &[u8], out: &mut [u8]) -> Listed
 
 // The line for a card that is refused, from the buffer's start on.
 pub fn list_refused(number: u64, name: &[u8], out: &mut [u8]) -> Listed
-    ensures { λ r. ⌜ Lists (now (out .entry)) (refusedLine number (now (name .entry))) r (now (out .exit)) ⌝ }
+    ensures { λ r. ⌜ (r ≡ listed (length (now (out .entry))) (length (refusedLine number (now (name .entry)))))
+        × (now (out .exit) ≡ written (now (out .entry)) 0 (refusedLine number (now (name .entry)))) ⌝ }
 {
     let p = put_numbered(out, 0, b"refused ", number);
     let p = put_byte(out, p, b' ');
