@@ -1,4 +1,4 @@
-/* The exported entries of the queue log. Each returns 0, or the number of its refusal (1 to 15 and 18, docs/REFUSALS.md); then all values that it
+/* The exported entries of the queue log. Each returns 0, or the number of its refusal (1 to 15, 17 and 18, docs/REFUSALS.md); then all values that it
  * gives by a pointer are 0. A slice is a pointer and its length; no two slices may overlap, and none may be null, also where its length is 0.
  *
  * Lent to each call: the log, the scratch, and the queue memory: names, payloads, the record table `entries` and the table of queues `table`. Both tables may
@@ -9,7 +9,8 @@
  * The numbers: 1 the log is under one block or over 4,096; 2 a name is over 65,535 bytes; 3 a name is not UTF-8; 4 position 2^64-1 is named; 5 over 128 payloads, or
  * lengths that do not sum to the bytes given; 6 the memory, the reader or the write position is not arranged; 7 the name is held; 8 it is not held; 9 the position is
  * past; 10 a payload would take position 2^64-1; 11 a record is longer than the scratch; 12 the queue memory is full; 13 the log is full; 14 replay meets a position
- * that cannot be taken; 15 the target is too short for the whole copy, of mrecordlog_copy alone; 18 a width that does not fit, of the two entries for byte planes alone.
+ * that cannot be taken; 15 the target is too short for the whole copy, of mrecordlog_copy alone; 17 the report
+ * has counted 65,535 logs, of mrecordlog_report_feed alone; 18 a width that does not fit, of the two entries for byte planes alone.
  */
 #ifndef MRECORDLOG_H
 #define MRECORDLOG_H
@@ -33,6 +34,7 @@
 #define MRECORDLOG_LOG_FULL 13
 #define MRECORDLOG_REPLAY_POSITION 14
 #define MRECORDLOG_TARGET_TOO_SHORT 15
+#define MRECORDLOG_REPORT_FULL 17
 #define MRECORDLOG_WIDTH_WRONG 18
 
 /* A call that writes, and is not refused, gives the bytes that it wrote to the log in two counts: frame_bytes, the headers and data of its record's frames, and
@@ -145,5 +147,18 @@ uint64_t mrecordlog_to_planes(const uint8_t *payload, size_t payload_len, uint64
 
 /* The readings that a payload of planes holds: the inverse, with the same refusal. */
 uint64_t mrecordlog_from_planes(const uint8_t *payload, size_t payload_len, uint64_t width, uint8_t *target, size_t target_len);
+
+/* A report over a box of cards: 12 little-endian numbers of 8 bytes each, 96 bytes in all: logs fed; right and wrong frames of type Full, First, Middle, Last;
+ * unreadable headers; over-long frames; bytes of data in sound frames. Zeros are the empty report. docs/LAYOUT.md says when a report is arranged: what a feeding
+ * left always is.
+ *
+ * Counts the frames of a log, by the reading of frames alone, up to its first end of log. 1: the log is under one block or over 4,096; 6: the report is not arranged, or
+ * not 96 bytes long; 17: it has counted 65,535 logs. A refusal leaves the report as it was. */
+uint64_t mrecordlog_report_feed(uint8_t *report, size_t report_len, const uint8_t *log, size_t log_len);
+
+/* The mean data length of the sound frames that a report counts: found 1, and whole + remainder / count; found 0 where there are none. 6: the report is not
+ * arranged. */
+uint64_t mrecordlog_report_mean(const uint8_t *report, size_t report_len,
+                                uint64_t *found, uint64_t *whole, uint64_t *remainder, uint64_t *count);
 
 #endif

@@ -1,16 +1,16 @@
-// The whole of standard input, for the programs that take a card: read to its end, or as far as the buffer goes.
+// A card read from an open file.
 ghost use Prim.Native.Nat.{_≤_};
 ghost use lib.ListN.{length};
 ghost use Rattle.io.specs.Counts.{Counts};
 
-// Whether the input may have more, has ended, or could not be read.
+// Whether the file may have more, has ended, or could not be read.
 pub enum State {
     Going,
     Ended,
     Failed,
 }
 
-// How many bytes of the input stand at the start of the buffer.
+// How many bytes of the file stand at the start of the buffer.
 pub struct Reading {
     pub bytes: usize,
     pub state: State,
@@ -25,17 +25,17 @@ fn cut_or_failed(error: i32) -> State {
     }
 }
 
-// One read, after the first `from` bytes. A full buffer ends the input: nothing more is asked for.
-fn read_on(input: &mut [u8], from: usize) -> Reading
-    ensures { λ r. ⌜ r .«bytes» ≤ length (now (input .exit)) ⌝ }
+// One read of the file, after the first `from` bytes. A full buffer ends it: nothing more is asked for.
+fn read_on(file: i32, card: &mut [u8], from: usize) -> Reading
+    ensures { λ r. ⌜ r .«bytes» ≤ length (now (card .exit)) ⌝ }
 {
-    if input.len() < from {
+    if card.len() < from {
         return Reading {
             bytes: 0,
             state: State::Failed,
         };
     }
-    let got = libc::read(libc::STDIN_FILENO, &mut input[from..]);
+    let got = libc::read(file, &mut card[from..]);
     if got < 0 {
         return Reading {
             bytes: from,
@@ -48,21 +48,21 @@ fn read_on(input: &mut [u8], from: usize) -> Reading
             state: State::Ended,
         };
     }
-    let n = io::count(got, &input[from..]);
+    let n = io::count(got, &card[from..]);
     Reading {
         bytes: from + n,
         state: State::Going,
     }
 }
 
-// The input to its end, or as much of it as the buffer takes. Nothing says that an input ends, so the turns are counted down from a number that no run uses up.
-pub fn read_input(input: &mut [u8]) -> Reading
-    ensures { λ r. ⌜ Counts (r .«bytes») (now (input .exit)) ⌝ }
+// The file to its end, or as much of it as the buffer takes. Nothing says that a file ends, so the turns are counted down from a number that no run uses up.
+pub fn read_card(file: i32, card: &mut [u8]) -> Reading
+    ensures { λ r. ⌜ Counts (r .«bytes») (now (card .exit)) ⌝ }
 {
     let mut bytes = 0;
     let mut turns = u64::MAX;
     while 0 < turns {
-        let reading = read_on(input, bytes);
+        let reading = read_on(file, card, bytes);
         let state = reading.state;
         let State::Going = state else {
             return reading;

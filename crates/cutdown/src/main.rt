@@ -1,7 +1,7 @@
 // Cuts the card on standard input down to what it holds, and writes the fresh card to standard output. A card that is refused is told on standard error, as
 // `refused` and the number, and so is a read or a write that fails; then nothing is written, or, where a write fails, perhaps a part.
 use card_input::State;
-use card_input::read_input;
+use card_input::read_card;
 use cutdown_card::Cutdown;
 use listing::Listed;
 
@@ -30,7 +30,7 @@ fn cut(input: &[u8]) {
 
 fn main() {
     let mut input = [0u8; 65537];
-    let reading = read_input(&mut input);
+    let reading = read_card(libc::STDIN_FILENO, &mut input);
     let n = reading.bytes;
     let state = reading.state;
     let State::Ended = state else {

@@ -54,7 +54,7 @@ decimal-digits (suc k) n h =
     let big : 10 ≤ n = ltb-false n 10 no in
     omega (arith, ap length (decimal-more n big), length-append (decimal (n / 10)) (digit (n % 10) ∷ []), decimal-digits k (n / 10) (omega arith)))
 
-decimal-short : (n : ℕ) → n < 2 ^ 64 → length (decimal n) ≤ 20
+pub decimal-short : (n : ℕ) → n < 2 ^ 64 → length (decimal n) ≤ 20
 decimal-short n h = decimal-digits 19 n (omega arith)
 
 hex-run-length : (bs : List ℕ) → length (hexRun bs) ≡ 2 * length bs

@@ -5,8 +5,13 @@ mod passes;
 mod text;
 mod write;
 
+pub use lines::answer;
+pub use lines::put_number_line;
+pub use lines::put_numbered;
 pub use passes::list;
 pub use text::refused;
+pub use write::put_byte;
+pub use write::put_bytes;
 
 // What became of a text: it stands in the buffer, in this many bytes, or the buffer is too short for it.
 pub enum Listed {

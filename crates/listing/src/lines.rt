@@ -14,7 +14,7 @@ use crate::write::put_bytes;
 use frame::Reader;
 
 // A word and a number.
-fn put_numbered(out: &mut [u8], at: usize, word: &[u8], n: u64) -> usize
+pub fn put_numbered(out: &mut [u8], at: usize, word: &[u8], n: u64) -> usize
     ensures { λ r. ⌜ Wrote (now (out .entry)) at (numbered (now (word .entry)) n) r (now (out .exit)) ⌝ }
 {
     let p = put_bytes(out, at, word);

@@ -1,2 +1,3 @@
 pub mod Told
 pub mod Exported
+pub mod Reported

@@ -1,7 +1,7 @@
 // Lists the card on standard input: the whole of it is read, a byte more than a card may have at most, and the library's text is written. A read or a write
 // that fails is said on standard error, and where the input could not be read to its end nothing is listed.
 use card_input::State;
-use card_input::read_input;
+use card_input::read_card;
 use listing::Listed;
 
 fn show(input: &[u8]) {
@@ -16,7 +16,7 @@ fn show(input: &[u8]) {
 
 fn main() {
     let mut input = [0u8; 65537];
-    let reading = read_input(&mut input);
+    let reading = read_card(libc::STDIN_FILENO, &mut input);
     let n = reading.bytes;
     let state = reading.state;
     let State::Ended = state else {

@@ -1,18 +1,18 @@
--- `card_input::read_input` is safe and ends: the measure is the number of turns that are left, and the buffer keeps its length.
+-- `card_input::read_card` is safe and ends: the measure is the number of turns that are left, and the buffer keeps its length.
 -- Assumes nothing.
 use mathlib.Core.Path.{_≡_, sym}
 use native.Mathlib.Omega.{arith}
 use lib.ListN.{length}
 use lib.Seq.{length-take-le}
 use borrow.Author.Needs.{needs}
-use Rattle.card_input.proofs.read_input.Statement.{statement}
-use Rattle.card_input.proofs.read_input.Tie as tie
+use Rattle.card_input.proofs.read_card.Statement.{statement}
+use Rattle.card_input.proofs.read_card.Tie as tie
 
 abbrev Inv-loop : tie.InvT-loop
-Inv-loop input₀ bytes₀ turns₀ input bytes turns = length input ≡ length input₀
+Inv-loop file card₀ bytes₀ turns₀ card bytes turns = length card ≡ length card₀
 
 abbrev μ-loop : tie.MeasureT-loop
-μ-loop input₀ bytes₀ turns₀ input bytes turns = turns
+μ-loop file card₀ bytes₀ turns₀ card bytes turns = turns
 
 loop-holds : tie.Need-loop-holds Inv-loop μ-loop
 loop-holds c = search needs
@@ -46,8 +46,8 @@ same-length-2 c = search needs
 returns-2 : tie.Need-returns-2 Inv-loop μ-loop
 returns-2 c = search needs
 
-pub read-input-spec : {M : Type 1} → statement M
-read-input-spec =
+pub read-card-spec : {M : Type 1} → statement M
+read-card-spec =
     tie.close
     (tie.spec
     Inv-loop

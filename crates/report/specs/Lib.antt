@@ -1,0 +1,4 @@
+pub mod Layout
+pub mod Feed
+pub mod Internal
+pub mod Claims

@@ -1,0 +1,4 @@
+pub mod Stands
+pub mod Ahead
+pub mod Claims
+pub mod Places
