@@ -1,0 +1,3 @@
+pub mod Since
+pub mod Balance
+pub mod Claims
