@@ -14,9 +14,13 @@ last_step = F('last_step', [QUEUE, LAST, I, E], 'usize', 'lastWith queue last i 
 is_none = F('is_none', [LAST], 'bool', 'eqb last 0', crate='largest', rules=R)
 kept_with = F('kept_with', [KEPT, LAST], 'usize', 'getD kept (last - 1) 0', requires='(1 ≤ last) × (last ≤ length kept)', crate='largest', rules=R)
 tell = F('tell', [E], 'Largest', 'entryTold e', crate='largest', rules=R)
+LOWER = ('lower', 'plain', 'usize')
+store = F('store', [ENTRIES, LOWER, COUNT, BESTS, ('kept', 'mut', 'u64')], 'unit', 'tt', {'bests': 'bestsTo entries count', 'kept': 'keptTo entries kept lower count'}, requires='StoreFits entries lower count bests kept', crate='mem_largest', rules=R)
+compare = F('compare', [ENTRIES, COUNT, BESTS, KEPT], 'bool', 'keptFits entries count kept', {'bests': 'bestsTo entries count'}, requires='CompareFits entries count bests', crate='mem_largest', rules=R)
 last_of = F('last_of', [ENTRIES, COUNT, QUEUE], 'usize', 'lastTo queue entries count', requires='count ≤ length entries', crate='mem_largest', rules=R)
 USES = '''
-use Prim.Native.Nat.{_-_}
+use native.Mathlib.Nat.{le-trans, le-add-right}
+use Prim.Native.Nat.{_-_, zero-le}
 use mathlib.Core.Path.{_∙_}
 use mathlib.Core.Bool.{_&&_}
 use lib.Dec.{leb, eqb}
@@ -25,7 +29,8 @@ use borrow.Author.Tests.{eqb-true, eqb-false}
 use Rattle.queues.specs.Layout.{blank}
 use Rattle.largest.specs.Largest.{entryTold}
 use Rattle.largest.specs.declared.Largest.the-variants.{Nothing as largestNothing}
-use Rattle.largest.specs.OnePass.{bestsWith, numberWith, BestFits, noBests, bestsTo, keptTo, isKept, fitsTo, PassFits, KeepFits, lastWith, lastTo, AnswerFits}
+use Rattle.largest.specs.Table.{keptFits}
+use Rattle.largest.specs.OnePass.{bestsWith, numberWith, BestFits, noBests, bestsTo, keptTo, isKept, fitsTo, PassFits, KeepFits, lastWith, lastTo, StoreFits, CompareFits, AnswerFits}
 use Rattle.largest.proofs.OnePass.{bests-length, one-pass}
 use Rattle.largest.proofs.Passes.{bests-none, bests-next, step-asks, kept-none, kept-next, kept-long, fits-none, fits-on, last-none, last-next, tells-none, Found, found}
 use Rattle.mem_largest.proofs.Bests.{made, is-made, room-bests}
@@ -35,24 +40,50 @@ use Rattle.mem_largest.proofs.Bests.{made, is-made, room-bests}
 def reads(inside, le): return dict(f=entry_at_shared, **{'with': {'entries': 'entries', 'i': ('(i .0)', '(lt-of-le-of-lt %s count-is)' % le)}, 'need': '(lt-of-lt-of-le (ltb→lt (i .0) count less) %s)' % inside, 'is': 'e-is', 'res': 'getD entries (i .0) blank'})
 AT = ('(i .0)', '(lt-of-le-of-lt (i .1) count-is)'); READ = ('(getD entries (i .0) blank)', 'e-is')
 ARRAY = dict(name='bests', row='u64', count='128', of='noBests', made='made', **{'is': 'is-made', 'len': 'refl'})
-BESTS_AT = dict(name='bests', den='ℕ', at='bests-at', zero='(bests-none entries)', next='(bests-next entries (i .0))', long='bests-length entries %s')
 ASKS = '(step-asks entries count %s (i .0) (ltb→lt (i .0) count less) (fits-next less))'
-keep = F('keep', [ENTRIES, COUNT, ('kept', 'mut', 'u64')], 'unit', 'tt', {'kept': 'kept-at i'}, crate='mem_largest', requires='KeepFits entries count kept',
-    lets=[('bests-at', 'ℕ → List ℕ', 'bestsTo entries i', 'i'), ('kept-at', 'ℕ → List ℕ', 'keptTo entries kept i', 'i')], typed=[('RecordEntry', 'Entry')],
-    post='(ap kept-at at-end ∙ one-pass entries count (need .pass) .kept kept (need .room))', array=ARRAY,
-    calls=[reads('(need .pass .in-table)', '(i .1)'),
-           dict(f=keep_step, **{'with': dict(same('bests', 'kept'), e=READ, i=AT), 'need': '(%s, inside less)' % (ASKS % '(need .pass)')})],
-    loop=counted(None, [BESTS_AT, dict(name='kept', den='ℕ', at='kept-at', zero='(kept-none entries kept)', next='(kept-next entries kept (i .0))', long='kept-long entries kept %s')], also='''
+store_loop = counted(None, [dict(name='bests', den='ℕ', at='bests-at', zero='(need .bests)', next='(bests-next entries (i .0))', long='bests-long %s'),
+    dict(name='kept', den='ℕ', at='kept-at', zero='(kept-none entries lower kept lower-in)', next='(kept-next entries lower count kept (need .keep) (i .0) (i .1 .0) (ltb→lt (i .0) count less))', long='kept-in %s')], more=dict(about='i, from where the numbers are stored on', where='(i : ℕ) × ((lower ≤ i) × (i ≤ count))', start='(lower, (le-of-eq refl, need .begun))', left='(i .0) (le-antisymm (i .1 .1) (nltb→le (i .0) count over))',
+    lens=dict(bests='bests-long i', kept='kept-in i (over-lower i at-end) (le-of-eq at-end)'), turn_lens=dict(bests='bests-long (i .0)', kept='kept-in (i .0) (i .1 .0) (i .1 .1)'), also='''
+          fits-next : Holds (ltb (i .0) count) → i .0 + 1 < 2 ^ 64
+          fits-next less = lt-of-le-of-lt (add-one-le (ltb→lt (i .0) count less)) count-is
+
+          next : Holds (ltb (i .0) count) → Where
+          next less = (i .0 + 1, (le-trans (i .1 .0) (le-add-right (i .0) 1), add-one-le (ltb→lt (i .0) count less)))
+
           inside : Holds (ltb (i .0) count) → i .0 < length (kept-at (i .0))
-          inside less = lt-of-lt-of-le (lt-of-lt-of-le (ltb→lt (i .0) count less) (need .room)) (le-of-eq (sym (kept-long entries kept (i .0))))
-'''), uses=USES)
-kept_fits = F('kept_fits', [ENTRIES, COUNT, KEPT], 'bool', 'sound-at i', crate='mem_largest', requires='PassFits entries count',
+          inside less = lt-of-lt-of-le (lt-of-lt-of-le (ltb→lt (i .0) count less) (need .keep .room)) (le-of-eq (sym (kept-in (i .0) (i .1 .0) (i .1 .1))))
+'''))
+store_walk = F('store', [ENTRIES, LOWER, COUNT, BESTS, ('kept', 'mut', 'u64')], 'unit', 'tt', {'bests': 'bests-at i', 'kept': 'kept-at i'}, crate='mem_largest', requires=store.requires,
+    lets=[('bests-at', 'ℕ → List ℕ', 'bestsTo entries i', 'i'), ('kept-at', 'ℕ → List ℕ', 'keptTo entries kept lower i', 'i')], typed=[('RecordEntry', 'Entry')], post='(ap bests-at at-end, ap kept-at at-end)', loop=store_loop, lemmas='''
+  lower-in : lower ≤ length entries
+  lower-in = le-trans (need .begun) (need .keep .pass .in-table)
+
+  bests-long : (i : ℕ) → length (bests-at i) ≡ length bests
+  bests-long i = bests-length entries i ∙ sym (ap length (need .bests) ∙ bests-length entries lower)
+
+  kept-in : (i : ℕ) → lower ≤ i → i ≤ count → length (kept-at i) ≡ length kept
+  kept-in i g h = kept-long entries lower count kept (need .keep) i g h
+
+  -- the loop ends behind where it starts
+  over-lower : (i : ℕ) → i ≡ count → lower ≤ i
+  over-lower i e = le-trans (need .begun) (le-of-eq (sym e))
+''',
+    calls=[reads('(need .keep .pass .in-table)', '(i .1 .1)'),
+           dict(f=keep_step, **{'with': dict(same('bests', 'kept'), e=READ, i=('(i .0)', '(lt-of-le-of-lt (i .1 .1) count-is)')), 'need': '(%s, inside less)' % (ASKS % '(need .keep .pass)')})], uses=USES)
+keep = F('keep', [ENTRIES, COUNT, ('kept', 'mut', 'u64')], 'unit', 'tt', {'kept': 'keptTo entries kept 0 count'}, crate='mem_largest', requires='KeepFits entries count kept', array=ARRAY,
+    calls=[dict(f=store, **{'with': dict(same('entries', 'count', 'bests', 'kept'), lower=('0', '(lit< tt)')), 'need': '(record { keep = need; begun = zero-le; bests = bests-none entries })', 'ends': {'bests': 'bestsTo entries count'}})], uses=USES)
+compare_walk = F('compare', [ENTRIES, COUNT, BESTS, KEPT], 'bool', 'sound-at i', {'bests': 'bests-at i'}, crate='mem_largest', requires=compare.requires,
     lets=[('bests-at', 'ℕ → List ℕ', 'bestsTo entries i', 'i'), ('sound-at', 'ℕ → Bool', 'fitsTo entries kept i', 'i')], typed=[('RecordEntry', 'Entry')],
-    post='(ap sound-at at-end ∙ one-pass entries count need .fits kept)', array=ARRAY,
+    post='(ap sound-at at-end ∙ one-pass entries count (need .pass) .fits kept, ap bests-at at-end)',
     calls=[dict(f=covers, **{'with': dict(numbers=('(length kept)', '(room-kept .0)'), records=('(length entries)', '(room-entries .0)'))}),
-           reads('(need .in-table)', '(i .1)'),
-           dict(f=fits_step, **{'with': dict(same('bests', 'kept'), sound=('(sound-at (i .0))', ''), e=READ, i=AT), 'need': ASKS % 'need'})],
-    loop=counted(dict(local=5, row='bool', at='sound-at', zero='(fits-none entries kept)', next='(fits-on entries kept (i .0))'), [BESTS_AT]), uses=USES)
+           reads('(need .pass .in-table)', '(i .1)'),
+           dict(f=fits_step, **{'with': dict(same('bests', 'kept'), sound=('(sound-at (i .0))', ''), e=READ, i=AT), 'need': ASKS % '(need .pass)'})],
+    loop=counted(dict(local=5, row='bool', at='sound-at', zero='(fits-none entries kept)', next='(fits-on entries kept (i .0))'), [dict(name='bests', den='ℕ', at='bests-at', zero='(need .bests ∙ bests-none entries)', next='(bests-next entries (i .0))', long='bests-length entries %s ∙ sym bests-long')]), lemmas='''
+  bests-long : length bests ≡ 128
+  bests-long = ap length (need .bests ∙ bests-none entries) ∙ bests-length entries 0
+''', uses=USES)
+kept_fits = F('kept_fits', [ENTRIES, COUNT, KEPT], 'bool', 'keptFits entries count kept', crate='mem_largest', requires='PassFits entries count', array=ARRAY,
+    calls=[dict(f=compare, **{'with': same('entries', 'count', 'bests', 'kept'), 'need': '(record { pass = need; bests = refl })', 'ends': {'bests': 'bestsTo entries count'}})], uses=USES)
 last_of_walk = F('last_of', [ENTRIES, COUNT, QUEUE], 'usize', 'last-at i', crate='mem_largest', requires='count ≤ length entries',
     lets=[('last-at', 'ℕ → ℕ', 'lastTo queue entries i', 'i')], typed=[('RecordEntry', 'Entry')], post='(ap last-at at-end)',
     calls=[reads('need', '(i .1 .0)'), dict(f=last_step, **{'with': dict(queue='queue', last=('(last-at (i .0))', '(i .1 .1)'), i=('(i .0)', '(lt-of-le-of-lt (i .1 .0) count-is)'), e=READ), 'need': '(fits-next less)', 'is': 'is'})],
@@ -76,6 +107,6 @@ largest_of = F('largest_of', [ENTRIES, COUNT, KEPT, QUEUE], 'Largest', 'entryTol
            dict(f=entry_at_shared, **{'with': dict(entries='entries', i=('number', 'number-is')), 'need': '(answer has .in-entries)', 'is': 'e-is', 'res': 'getD entries number blank'}),
            dict(f=tell, **{'with': dict(e=('(getD entries number blank)', 'e-is')), 'is': 'res-is', 'res': 'entryTold (getD entries number blank)'})], uses=USES)
 FILES = [
-    Rules('RULES', 'mem_largest', 'PassRules', 'A call rule for each function that the passes of the further table call, in the form of EntryRules.', [keep_step, covers, fits_step, last_step, is_none, kept_with, tell, last_of], USES),
-    Walk('keep', keep), Walk('kept_fits', kept_fits), Walk('last_of_walk', last_of_walk), Walk('largest_of', largest_of),
+    Rules('RULES', 'mem_largest', 'PassRules', 'A call rule for each function that the passes of the further table call, in the form of EntryRules.', [keep_step, covers, fits_step, last_step, is_none, kept_with, tell, store, compare, last_of], USES),
+    Walk('store_walk', store_walk), Walk('keep', keep), Walk('compare_walk', compare_walk), Walk('kept_fits', kept_fits), Walk('last_of_walk', last_of_walk), Walk('largest_of', largest_of),
 ]
