@@ -3,17 +3,10 @@
 use mathlib.Core.Path.{ap}
 use native.Mathlib.Omega.{arith}
 use Rattle.queues.specs.Queues.{payloadBytes}
-use Rattle.queues.proofs.SumsHeld.{sums-mean}
 use Rattle.contracts.specs.Contracts.{stateOf}
-use Rattle.contracts.proofs.Runs.{run-means, machine-agrees, calls-arranged}
-use Rattle.largest_contracts.specs.Claims.{LentBalance}
+use Rattle.contracts.proofs.Runs.{run-means, machine-agrees}
+use Rattle.largest_contracts.specs.Promises.{LentBalance}
 use Rattle.largest_contracts.proofs.Balance.{payloads-balance}
 
 pub lent-balance : LentBalance
-lent-balance h l r =
-    omega (
-      arith,
-      payloads-balance h (stateOf l) (run-means h l r),
-      ap payloadBytes (machine-agrees h l r .queues),
-      sums-mean (l .memory) (calls-arranged h l r .queue-memory) .payloads,
-    )
+lent-balance h l r = omega (arith, payloads-balance h (stateOf l) (run-means h l r), ap payloadBytes (machine-agrees h l r .queues))

@@ -1,6 +1,6 @@
 -- From open on the table is never 6, and its answers are those worked out afresh.
 -- Assumes nothing.
-use mathlib.Core.Path.{_≡_, sym, ap, subst}
+use mathlib.Core.Path.{_≡_, sym, ap, subst, _∙_}
 use mathlib.Core.Bool.{Bool, true}
 use mathlib.Core.List.{List}
 use Prim.Native.Nat.{ℕ, zero, suc, _≤_}
@@ -10,6 +10,7 @@ use lib.ListN.{length}
 use borrow.Author.Tests.{leb-true}
 use Rattle.queues.specs.Queues.{Queue, Capacities}
 use Rattle.queues.specs.Layout.{Memory, heldEntries, capacities, Leaves}
+use Rattle.queues.proofs.Parts.{place-numbered}
 use Rattle.queues.proofs.Both.{and-left}
 use Rattle.calls.specs.State.{bytesWritten}
 use Rattle.calls.specs.Calls.{callOf}
@@ -19,11 +20,12 @@ use Rattle.contracts.specs.Contracts.{Lent, stateOf, MemoryLeft, ReplayLeft}
 use Rattle.contracts.specs.Run.{opening, Run, begin}
 use Rattle.contracts.specs.Run.{Run.call as run-call}
 use Rattle.cut_contracts.specs.Claims.{Since, none, call}
-use Rattle.largest.specs.Largest.{keptNumbers}
+use Rattle.largest.specs.Largest.{keptNumbers, keptAnswer}
 use Rattle.largest.specs.Table.{startsWith, keptFits, keptTrue, keptLeft}
 use Rattle.largest.proofs.Table.{table-tells, table-holds, table-empty}
 use Rattle.largest_contracts.specs.Since.{tableLeft, tableAfter, Starts, not-six, opened}
-use Rattle.largest_contracts.specs.Claims.{NotSix, SinceHolds, LargestAfresh, RunBegins, RunSince}
+use Rattle.largest_contracts.specs.Promises.{LargestAfresh}
+use Rattle.largest_contracts.specs.Claims.{NotSix, SinceHolds, RunBegins, RunSince}
 
 -- the record table stays as long as it was
 same-entries : (m m′ : Memory) → capacities m′ ≡ capacities m → length (m′ .entries) ≡ length (m .entries)
@@ -62,7 +64,8 @@ since-holds l₀ l h ks o s = holds ks (starts-hold o) s
 pub largest-afresh : LargestAfresh
 largest-afresh l₀ l h ks n q o s f =
     let w : NotSix (l .memory) (tableAfter ks s) = since-holds l₀ l h ks o s in
-    table-tells (l .memory) (tableAfter ks s) n q (w .queue-memory) (w .table) f
+    ap (λ (k : ℕ). keptAnswer k (heldEntries (l .memory)) (tableAfter ks s)) (sym (place-numbered (l .memory) n))
+    ∙ table-tells (l .memory) (tableAfter ks s) n q (w .queue-memory) (w .table) f
 
 -- ---- a run from an empty start
 

@@ -1,21 +1,19 @@
 -- Claim.
--- The largest payload held from open on, and the balance of payload bytes. Each claim is proved in proofs/ under its name with hyphens.
+-- More on the further table from open on, and on the balance of payload bytes. Each claim is proved in proofs/ under its name with hyphens.
 -- Assumes nothing.
 use mathlib.Core.Path.{_≡_}
 use mathlib.Core.Bool.{true}
 use mathlib.Core.List.{List}
 use Prim.Native.Nat.{ℕ, _+_, _≤_}
 use lib.ListN.{length}
-use Rattle.queues.specs.Queues.{Queue, held, find, payloadBytes, evicted}
-use Rattle.queues.specs.Layout.{Memory, payloadsHeld, heldEntries, meaning, arranged}
-use Rattle.queues.specs.Claims.{placeIn}
+use Rattle.queues.specs.Queues.{Queue, payloadBytes, evicted}
+use Rattle.queues.specs.Layout.{Memory, arranged}
 use Rattle.calls.specs.State.{State}
 use Rattle.calls.specs.Machine.{Fed, machine}
 use Rattle.calls.specs.Run.{StatesRun}
 use Rattle.contracts.specs.Contracts.{Lent}
 use Rattle.contracts.specs.Run.{Run}
 use Rattle.cut_contracts.specs.Claims.{Since}
-use Rattle.largest.specs.Largest.{largestOf, keptAnswer}
 use Rattle.largest.specs.Table.{keptTrue}
 use Rattle.largest_contracts.specs.Since.{tableAfter, Starts}
 use Rattle.largest_contracts.specs.Balance.{recordsLeaving, gone, accepted}
@@ -30,11 +28,6 @@ pub record NotSix (m : Memory) (ks : List ℕ) : Type 0 where
 abbrev pub SinceHolds : Type 0
 SinceHolds = (l₀ l : Lent) (h : List Fed) (ks : List ℕ) → Starts (l₀ .memory) ks → (s : Since l₀ h l) → NotSix (l .memory) (tableAfter ks s)
 
--- "From open on, each call lent what the one before left, it equals the answer worked out afresh from the held records."
-abbrev pub LargestAfresh : Type 0
-LargestAfresh = (l₀ l : Lent) (h : List Fed) (ks n : List ℕ) (q : Queue) → Starts (l₀ .memory) ks → (s : Since l₀ h l) → find n (meaning (l .memory)) ≡ held q
-    → keptAnswer (placeIn (l .memory) n .queue) (heldEntries (l .memory)) (tableAfter ks s) ≡ largestOf (q .records)
-
 -- a run from an empty start is such a list of calls, and it may start with any table that is long enough
 pub record RunBegins (h : List Fed) (l : Lent) : Type 0 where
   pub first : Lent
@@ -46,13 +39,9 @@ RunSince = (h : List Fed) (l : Lent) → Run h l → RunBegins h l
 
 -- ---- payload bytes
 
--- "Payload bytes held equal those accepted less those evicted or deleted, both summed over the calls of such a run from an empty start with no replay in it."
+-- the balance of `LentBalance` over states
 abbrev pub PayloadsBalance : Type 0
 PayloadsBalance = (h : List Fed) (s : State) → StatesRun h s → payloadBytes (machine h .queues) + gone h ≡ accepted h
-
--- the same over the lent memory itself
-abbrev pub LentBalance : Type 0
-LentBalance = (h : List Fed) (l : Lent) → Run h l → payloadsHeld (l .memory .table) + gone h ≡ accepted h
 
 -- the records that leave are as many as a truncate answers
 abbrev pub LeavingCounted : Type 0
