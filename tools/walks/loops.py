@@ -11,7 +11,7 @@ The numbers of the parts of the code and the index's local come from the MIR."""
 import rows
 
 def counted(acc=None, lists=(), count='count', below='count-is', result=None, also='', aux='', more={}):
-    here = '(i .0)'; carried = acc and 'is' not in acc
+    here = '(i .0)'; carried = acc and 'is' not in acc and 'fact' in rows.ROWS[acc['row']]  # a bool has no fact
     le, start = ('(i .1 .0)', '(0, (zero-le, zero-is))') if carried else ('(i .1)', '(0, zero-le)')
     loop = dict(about='i, with what is known of the result so far' if carried else 'i', measure='%s - i .0' % count, start=start, exits=('(i : ℕ) → i ≡ %s → ' % count, 'i at-end '), index=True,
                 fits='(fits-next less)', refs={}, lens={}, turn_lens={}, locals={}, enters=[], turned=[], aux=aux)
@@ -24,14 +24,14 @@ def counted(acc=None, lists=(), count='count', below='count-is', result=None, al
     if not acc:
         loop['where'] = '(i : ℕ) × (i ≤ %s)' % count; loop['again'] = '(next less) ' + less; facts = ''
     else:
-        r = rows.ROWS[acc['row']]; v = '(%s (i .0))' % acc['at']; is_ = '(i .1 .1)' if carried else '(%s (i .0))' % acc['is']
-        fact = r['fact'] % ('(%s i)' % acc['at']); of = r['fact'].replace(' %s', '') if r['fact'].startswith('Is') else '(λ (m : ℕ). m < 2 ^ 64)'
-        loop['locals'][acc['local']] = (r['val'] % v, '(typed-%s %s %s)' % (r['mod'], v, is_) if 'mod' in r else '(tt, record { fits = %s })' % is_.strip('()'))
+        r = rows.ROWS[acc['row']]; v = '(%s (i .0))' % acc['at']; is_ = '(i .1 .1)' if carried else '(%s (i .0))' % acc.get('is', '')
+        fact = carried and r['fact'] % ('(%s i)' % acc['at']); of = carried and (r['fact'].replace(' %s', '') if r['fact'].startswith('Is') else '(λ (m : ℕ). m < 2 ^ 64)')
+        loop['locals'][acc['local']] = (r['val'] % v, '(typed-%s %s %s)' % (r['mod'], v, is_) if 'mod' in r else '(tt, record { fits = %s })' % is_.strip('()') if 'fact' in r else '(tt, tt)')
         loop['enters'].append((acc['local'], ('Val', 'z') if acc.get('raw') else (r['den'], r['val'] % 'z'), acc['zero']))
         loop['turned'].append((acc['local'], (r['den'], r['val'] % 'z'), acc['next']))
         loop['where'] = '(i : ℕ) × ((i ≤ %s) × %s)' % (count, fact) if carried else '(i : ℕ) × (i ≤ %s)' % count
         loop['again'] = ('(next less (subst %s %s is)) ' % (of, acc['next']) if carried else '(next less) ') + less
-        facts = ' ' + is_
+        facts = ' ' + is_ if 'fact' in r else ''
     loop['left'] = '(i .0) (le-antisymm %s (nltb→le (i .0) %s over))' % (le, count) + (' ' + result[1] if result else facts)
     if result: loop['result'] = result[0]
     step = 'add-one-le (ltb→lt (i .0) %s less)' % count

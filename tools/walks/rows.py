@@ -55,6 +55,7 @@ declared('frame', 'Reader', 'Rdr', 'struct')
 declared('copy_write', 'Copying', 'Cpg', 'struct')
 declared('copy_write', 'CopyPlan', 'Cpl', 'struct')
 declared('copy_write', 'CopyAnswer', 'Cpa', 'enum')
+declared('largest', 'Largest', 'Lgt', 'enum')
 
 def row_uses():
     return ''.join('use Rattle.%s.specs.declared.%s.{%s}\nuse Rattle.%s.proofs.%s as %s\nuse Rattle.%s.proofs.%s.Laws as %s′\n' % (c, n, n, c, n, m, c, n, m) for c, n, m in DECLARED)
@@ -168,6 +169,7 @@ use Rattle.readout_text.proofs.Typed.{IsNumbers}
 use Rattle.replay.proofs.Typed.{IsReplaying, IsTurn, IsReplayAnswer, IsReader, IsReadAnswer}
 use Rattle.call_apply.proofs.Typed.{IsMultiRecord, IsItemStep, IsDoing}
 use Rattle.copy.proofs.Typed.{IsCopying, IsCopyPlan, IsCopyAnswer}
+use Rattle.mem_largest.proofs.Typed.{IsLargest}
 use Rattle.contracts.proofs.Typed.{IsAtPosition, IsRequest, IsPlan, IsCalled, IsAsked, IsQuestion, IsQuestionAnswer}
 '''
 

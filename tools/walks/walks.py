@@ -413,7 +413,7 @@ class Gen:
         order = ['H-' + p.n for p in refs]
         # which slice each local is made of, for its Room
         room = {i: p.n for i, p in enumerate(f.params, 1) if p.k in ('mut', 'copy')}
-        calls = list(f.calls); kinds = {i: typing(p) for i, p in enumerate(f.params, 1) if not p.isref and 'mod' in S.ROWS[p.t]}; loc = ''
+        calls = list(f.calls); kinds = {i: typing(p) for i, p in enumerate(f.params, 1) if not p.isref and ('mod' in S.ROWS[p.t] or S.ROWS[p.t]['kind'] == 'int')}; loc = ''
         def make_array(i, rvs):
             nonlocal par, order, loc
             a = f.array; R = g.row(a['row']); N = a['count']; loc = 'l' + str(i).translate(DIG)

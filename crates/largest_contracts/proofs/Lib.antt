@@ -1,0 +1,4 @@
+pub mod Balance
+pub mod Lent
+pub mod Since
+pub mod Examples

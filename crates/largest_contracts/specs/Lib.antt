@@ -1,0 +1,4 @@
+pub mod Since
+pub mod Balance
+pub mod Promises
+pub mod Claims
