@@ -1,0 +1,4 @@
+pub mod Driven
+pub mod Examples
+pub mod Claims
+pub mod Internal
