@@ -35,19 +35,24 @@ fn keep_log(log: &[u8]) -> bool {
     write_log(&name[..n], log)
 }
 
+// The text of an input of so many bytes, after the log. There is no log to keep of an input that is too long.
+fn print(text: &[u8], log: &[u8], input_len: usize) {
+    if input_len <= MAX_INPUT_LEN {
+        if !keep_log(log) {
+            return;
+        }
+    }
+    if !io::write_all(libc::STDOUT_FILENO, text) {
+        os::fail(b"drive: standard output");
+    }
+}
+
 fn show(input: &[u8], log: &mut [u8; 65536]) {
     let mut out = [0u8; 247570];
     let Listed::Bytes(n) = drive_text::drive(input, log, &mut out) else {
         return;
     };
-    if input.len() <= MAX_INPUT_LEN {
-        if !keep_log(log) {
-            return;
-        }
-    }
-    if !io::write_all(libc::STDOUT_FILENO, &out[..n]) {
-        os::fail(b"drive: standard output");
-    }
+    print(&out[..n], log, input.len());
 }
 
 fn main() {

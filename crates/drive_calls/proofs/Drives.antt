@@ -1,13 +1,13 @@
 -- The calls of an input's commands are a list of calls.
 -- Assumes nothing.
-use mathlib.Core.Path.{refl}
+use mathlib.Core.Path.{refl, subst}
 use mathlib.Core.Bool.{Bool, true, false, cond}
-use mathlib.Core.List.{List, [], _∷_}
+use mathlib.Core.List.{List, [], _∷_, append-nil}
 use Prim.Native.Nat.{ℕ, zero, suc}
 use native.Mathlib.Omega.{arith}
 use lib.Dec.{eqb}
 use lib.ListN.{length, drop}
-use Rattle.slices.specs.Bytes.{Bytes}
+use Rattle.slices.specs.Bytes.{Bytes, zeros}
 use Rattle.slices.proofs.Bytes.{take-bytes, drop-bytes}
 use Rattle.calls.specs.State.{State, Call, createCall, deleteCall, truncateCall, appendCall, Typed}
 use Rattle.calls.specs.Calls.{callOf}
@@ -72,7 +72,9 @@ in-run (suc i) h s input r b =
     on-run (commandAt input) h s (drivenIn i) (λ h′ s′ rest r′ b′. in-run i h′ s′ rest r′ b′) r (command-fine input b)
 
 pub opening-run : StatesRun [] opening
-opening-run = begin 2 [] readoutRoom readoutScratch (omega arith) (omega arith) (omega arith)
+opening-run =
+    subst (λ (log : List ℕ). StatesRun [] (record { log = log; place = 0; queues = []; arranged = true; capacities = readoutRoom; scratch = readoutScratch }))
+    (append-nil (zeros 65536)) (begin 2 [] readoutRoom readoutScratch (omega arith) (omega arith) (omega arith))
 
 pub drive-runs : DriveRuns
 unfolding driven drivenFrom

@@ -28,7 +28,7 @@ use Rattle.readout_text.specs.Card.{textBy, textFor, textIn, readoutRoom, reado
 use Rattle.readout_text.proofs.Sizes.{just-sized}
 use Rattle.drive_commands.specs.Commands.{Parsed, noneLeft, bad, command, commandAt}
 use Rattle.drive_calls.specs.Driven.{Driven, alsoLine, drivenOn, drivenIn, drivenFrom, driven, opening, fed, listingOf}
-use Rattle.drive_calls.specs.Claims.{ListsItsLog}
+use Rattle.drive_calls.specs.Promises.{ListsItsLog}
 use Rattle.drive_calls.proofs.Drives.{drive-runs}
 
 -- ---- sizes are kept

@@ -26,7 +26,7 @@ use Rattle.listing.proofs.Writes.{listed-whole}
 use Rattle.readout_text.specs.Card.{readoutScratch}
 use Rattle.drive_commands.specs.Commands.{Parsed, noneLeft, bad, command, trimOn, trimmed, nameIn, numberIn, payloadIn, positionBy, width, callBy, isCommand, commandAt}
 use Rattle.drive_calls.specs.Driven.{Driven, lineOf, fed, alsoLine, drivenOn, drivenIn, drivenFrom, driven, opening, joined, listingOf, drivenText, tooLong, driveText}
-use Rattle.drive_calls.specs.Claims.{DriveShort, DriveRoom}
+use Rattle.drive_calls.specs.Promises.{DriveShort, DriveRoom}
 use Rattle.drive_calls.proofs.Drives.{ParsedFine, command-fine, opening-run, drive-runs}
 use Rattle.drive_calls.proofs.Lists.{Sized, opening-sized, call-sized, driven-sized}
 use Rattle.drive_calls.proofs.Short.{ShortCall, refusal-short, lineMost, line-short}

@@ -5,12 +5,9 @@ use mathlib.Core.Path.{_≡_}
 use mathlib.Core.List.{List, _++_}
 use Prim.Native.Nat.{ℕ, _+_, _≤_, _<_}
 use lib.ListN.{length}
-use Rattle.slices.specs.Bytes.{Bytes, zeros}
+use Rattle.slices.specs.Bytes.{Bytes}
 use Rattle.calls.specs.State.{Call}
 use Rattle.calls.specs.Run.{StatesRun}
-use Rattle.listing.specs.declared.Listed.{Listed}
-use Rattle.listing.specs.declared.Listed.the-variants.{Bytes as bytes}
-use Rattle.listing.specs.Writing.{written, listed}
 use Rattle.listing.specs.Listing.{listing, refusal}
 use Rattle.readout_text.specs.Card.{cardText}
 use Rattle.drive_commands.specs.Commands.{command, commandAt}
@@ -19,10 +16,6 @@ use Rattle.drive_calls.specs.Driven.{driven, joined, listingOf, driveTex
 -- the calls of an input's commands are a list of calls from an empty start, as demands 2 and 3 have it
 abbrev pub DriveRuns : Type 0
 DriveRuns = (input : List ℕ) → Bytes input → StatesRun (driven input .history) (driven input .state)
-
--- "What it lists equals what replaying its own log lists."
-abbrev pub ListsItsLog : Type 0
-ListsItsLog = (input : List ℕ) → Bytes input → listingOf (driven input .state) ≡ cardText (driven input .state .log)
 
 -- an input of at most 65,536 bytes prints its lines, and then what `readout` prints for the log left
 abbrev pub DriveLists : Type 0
@@ -57,10 +50,3 @@ pub record LinesMost : Type 0 where
   pub size : length input ≡ 65536
   pub bytes : Bytes input
   pub lines : length (driven input .lines) ≡ 7282
-
--- a buffer of 247,570 bytes has room for the text of every input: the answer is never that there is no room
-abbrev pub DriveShort : Type 0
-DriveShort = (input : List ℕ) → Bytes input → length (driveText input) ≤ 247570
-
-abbrev pub DriveRoom : Type 0
-DriveRoom = (input : List ℕ) (room : ℕ) → Bytes input → 247570 ≤ room → listed room (length (driveText input)) ≡ bytes (length (driveText input))

@@ -1,16 +1,16 @@
 -- Definition (02, Ticket 4).
 -- The calls of an input's commands from an empty log of two blocks with `readout`'s memory; the text that is printed for the input, and the log that is left.
 -- Assumes nothing.
-use mathlib.Core.Bool.{Bool, cond}
+use mathlib.Core.Bool.{Bool, true, cond}
 use mathlib.Core.List.{List, [], _∷_, _++_}
 use Prim.Native.Nat.{ℕ, zero, suc}
 use lib.Dec.{ltb}
 use lib.ListN.{length}
+use Rattle.slices.specs.Bytes.{zeros}
 use Rattle.recordlog.specs.Read.{resume}
 use Rattle.calls.specs.State.{State, Call}
 use Rattle.calls.specs.Calls.{callOf}
 use Rattle.calls.specs.Machine.{Fed, wasRefused}
-use Rattle.calls.specs.Run.{opened}
 use Rattle.listing.specs.Listing.{listing, refusal}
 use Rattle.readout_text.specs.Card.{readoutRoom, readoutScratch}
 use Rattle.drive_commands.specs.Commands.{Parsed, noneLeft, bad, command, commandAt}
@@ -52,7 +52,7 @@ drivenFrom s input = drivenIn (length input) [] s input
 
 -- "from an empty log of two blocks, with `readout`'s memory"
 abbrev pub opening : State
-opening = opened 2 [] readoutRoom readoutScratch
+opening = record { log = zeros 65536; place = 0; queues = []; arranged = true; capacities = readoutRoom; scratch = readoutScratch }
 
 unfoldable pub driven : List ℕ → Driven
 driven input = drivenFrom opening input

@@ -2,7 +2,7 @@
 -- Assumes nothing.
 use mathlib.Core.Path.{_≡_, refl, sym, ap, subst, _∙_}
 use mathlib.Core.Bool.{Bool, true}
-use mathlib.Core.List.{List, [], append-nil}
+use mathlib.Core.List.{List, []}
 use Prim.Native.Nat.{ℕ, _/_, min}
 use lib.ListN.{length}
 use Rattle.slices.specs.Bytes.{zeros}
@@ -62,7 +62,6 @@ opening-means scratch ns ps es d a b c =
     ∙ ap (λ (x : Bool). made [] x (capacities m) (length scratch)) (w .still-arranged)
     ∙ ap (λ (k : Capacities). made [] true k (length scratch)) (room-is ns ps us a b (entries-long es c))
     ∙ ap (made [] true readoutRoom) d
-    ∙ ap (λ (log : List ℕ). record { log = log; place = 0; queues = []; arranged = true; capacities = readoutRoom; scratch = readoutScratch }) (sym (append-nil (zeros 65536)))
 
 pub drove : {input log scratch ns ps es log′ out out′ : List ℕ} {g′ : LentBytes} {r : ℕ} → log ≡ zeros 65536
     → length scratch ≡ 65536 → length ns ≡ 32768 → length ps ≡ 32768 → length es ≡ 24576

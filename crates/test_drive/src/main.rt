@@ -77,15 +77,26 @@ fn read_input(input: &mut [u8]) -> Input {
     }
 }
 
+fn print(text: &[u8], log: &[u8]) {
+    io::write_all(1, text);
+    io::write_all(1, b"log ");
+    io::print_hex(1, crc(log) as u64, 8);
+    io::write_all(1, b"\n\n");
+}
+
+fn crc(log: &[u8]) -> u32 {
+    if log.len() == 0 {
+        return 0;
+    }
+    crc32_frame::checksum(log[0], &log[1..])
+}
+
 fn show(input: &[u8], log: &mut [u8; 65536]) {
     let mut out = [0u8; 247570];
     let Listed::Bytes(n) = drive_text::drive(input, log, &mut out) else {
         return;
     };
-    io::write_all(1, &out[..n]);
-    io::write_all(1, b"log ");
-    io::print_hex(1, crc32_frame::checksum(log[0], &log[1..]) as u64, 8);
-    io::write_all(1, b"\n\n");
+    print(&out[..n], log);
 }
 
 // The next input, where there is one.
