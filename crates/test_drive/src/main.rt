@@ -41,14 +41,18 @@ fn repeat(input: &mut [u8], at: usize, part: &[u8], times: usize) -> usize {
     p
 }
 
-fn add_part(input: &mut [u8], at: usize, head: Head) -> usize {
-    let mut part = [0u8; 65536];
+fn read_part(input: &mut [u8], at: usize, part: &mut [u8], head: Head) -> usize {
     let len = head.len;
     if part.len() < len {
         return at;
     }
     io::read_full(0, &mut part[..len]);
     repeat(input, at, &part[..len], head.times)
+}
+
+fn add_part(input: &mut [u8], at: usize, head: Head) -> usize {
+    let mut part = [0u8; 65536];
+    read_part(input, at, &mut part, head)
 }
 
 fn read_input(input: &mut [u8]) -> Input {
@@ -99,11 +103,8 @@ fn show(input: &[u8], log: &mut [u8; 65536]) {
     print(&out[..n], log);
 }
 
-// The next input, where there is one.
-fn show_next() -> bool {
-    let mut input = [0u8; 65537];
-    let mut log = [0u8; 65536];
-    let read = read_input(&mut input);
+fn show_read(input: &mut [u8], log: &mut [u8; 65536]) -> bool {
+    let read = read_input(input);
     if !read.there {
         return false;
     }
@@ -111,8 +112,15 @@ fn show_next() -> bool {
     if input.len() < len {
         return false;
     }
-    show(&input[..len], &mut log);
+    show(&input[..len], log);
     true
+}
+
+// The next input, where there is one.
+fn show_next() -> bool {
+    let mut input = [0u8; 65537];
+    let mut log = [0u8; 65536];
+    show_read(&mut input, &mut log)
 }
 
 fn main() {
