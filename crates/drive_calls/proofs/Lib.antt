@@ -1,0 +1,9 @@
+pub mod Drives
+pub mod Lists
+pub mod Turns
+pub mod Short
+pub mod Text
+pub mod Fill
+pub mod Most
+pub mod Texts
+pub mod Examples

@@ -1,0 +1,4 @@
+pub mod Asked
+pub mod Turning
+pub mod Opening
+pub mod Parts
