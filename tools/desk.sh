@@ -1,4 +1,4 @@
-# What the scripts ./readout, ./cutdown and ./boxreport share: read by each of them, which sets `usage` first. Bash.
+# What the scripts ./readout, ./cutdown, ./boxreport and ./drive share: read by each of them, which sets `usage` first. Bash.
 # Status: 0 for what was asked for, 1 where a card was refused, 2 for what could not be read, found or written.
 set -u
 me=$(basename "$0")
