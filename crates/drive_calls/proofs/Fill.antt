@@ -55,7 +55,7 @@ run-fill h s r z =
     subst (λ (n : ℕ). (resume (s .log) n ≡ s .place) ⊎ (resume (s .log) n ≡ s .place + padding (s .place))) (z .scratch-is) (resumes-behind h s r) in
     ap (listing (s .queues) 0 (resume (s .log) readoutScratch)) (z .log-size)
     ∙ ap (λ (t : ℕ). numberLine queuesWord (length (s .queues)) ++ (queueLines (s .queues) ++ (numberLine lostWord 0 ++ fillLine t)))
-      (fill-same (s .place) (resume (s .log) readoutScratch) b)
+    (fill-same (s .place) (resume (s .log) readoutScratch) b)
 
 pub fill-by-place : FillByPlace
 fill-by-place input b = run-fill (driven input .history) (driven input .state) (drive-runs input b) (driven-sized input)

@@ -106,7 +106,7 @@ unfolding listingOf sizedText
 run-lists h s r z =
     sym (just-sized (s .log) (omega (arith, z .log-size)) (omega (arith, z .log-size))
     ∙ subst (λ (l : ℕ). textIn (s .log) readoutRoom l ≡ listing (s .queues) 0 (resume (s .log) l) (length (s .log))) (z .scratch-is)
-      (subst (λ c. textIn (s .log) c (s .scratch) ≡ listing (s .queues) 0 (resume (s .log) (s .scratch)) (length (s .log))) (z .room-is) (text-of-run h s r)))
+    (subst (λ c. textIn (s .log) c (s .scratch) ≡ listing (s .queues) 0 (resume (s .log) (s .scratch)) (length (s .log))) (z .room-is) (text-of-run h s r)))
 
 pub lists-its-log : ListsItsLog
 lists-its-log input b = run-lists (driven input .history) (driven input .state) (drive-runs input b) (driven-sized input)

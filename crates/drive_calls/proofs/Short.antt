@@ -114,9 +114,15 @@ unfolding countsText numbered numberLine
 counts-short a w =
     let f : ℕ = a .frame-bytes in
     let p : ℕ = a .padding-bytes in
-    omega
-    (arith, length-append (spaceWord ++ decimal f) ((spaceWord ++ decimal p) ++ lineFeed), length-append spaceWord (decimal f), length-append (spaceWord ++ decimal p) lineFeed,
-    length-append spaceWord (decimal p), digits 1 f (omega (arith, w .0)), digits 0 p (omega (arith, w .1)))
+    omega (
+      arith,
+      length-append (spaceWord ++ decimal f) ((spaceWord ++ decimal p) ++ lineFeed),
+      length-append spaceWord (decimal f),
+      length-append (spaceWord ++ decimal p) lineFeed,
+      length-append spaceWord (decimal p),
+      digits 1 f (omega (arith, w .0)),
+      digits 0 p (omega (arith, w .1)),
+    )
 
 -- ---- refusals
 
@@ -145,9 +151,31 @@ refusal-most s (createCall n) = first-most 14 (refusalsOf s (createCall n)) (ome
 refusal-most s (deleteCall n) = first-most 14 (refusalsOf s (deleteCall n)) (omega arith, (omega arith, (omega arith, (omega arith, (omega arith, (omega arith, (omega arith, (omega arith, tt))))))))
 refusal-most s (truncateCall n e) = first-most 14 (refusalsOf s (truncateCall n e)) (omega arith, (omega arith, (omega arith, (omega arith, (omega arith, (omega arith, (omega arith, (omega arith, (omega arith, tt)))))))))
 refusal-most s (appendCall n a run ks) =
-    first-most 14 (refusalsOf s (appendCall n a run ks))
-    (omega arith, (omega arith, (omega arith, (omega arith, (omega arith, (omega arith, (omega arith, (omega arith,
-    taking-most s n (firstPosition a (nextNamed s n)) run ks (givesEmpty a (nextNamed s n) ks)))))))))
+    first-most 14 (refusalsOf s (appendCall n a run ks)) (
+      omega arith,
+      (
+        omega arith,
+        (
+          omega arith,
+          (
+            omega arith,
+            (
+              omega arith,
+              (
+                omega arith,
+                (
+                  omega arith,
+                  (
+                    omega arith,
+                    taking-most s n (firstPosition a (nextNamed s n)) run ks (givesEmpty a (nextNamed s n) ks),
+                  ),
+                ),
+              ),
+            ),
+          ),
+        ),
+      ),
+    )
 
 pub refusal-short : (n : ℕ) → n ≤ 16 → length (refusal n) ≤ 11
 unfolding refusal numberLine numbered

@@ -169,9 +169,12 @@ short-by : (input : List ℕ) → Bytes input → (e : Bool) → ltb 65536 (leng
 unfolding drivenText
 short-by input b true e = omega (arith, refusal-short 1 (omega arith))
 short-by input b false e =
-    omega
-    (arith, length-append (joined (driven input .lines)) (listingOf (driven input .state)), lines-short input b (ltb-false 65536 (length input) e),
-    listed-short (driven input .history) (driven input .state) (drive-runs input b) (driven-sized input))
+    omega (
+      arith,
+      length-append (joined (driven input .lines)) (listingOf (driven input .state)),
+      lines-short input b (ltb-false 65536 (length input) e),
+      listed-short (driven input .history) (driven input .state) (drive-runs input b) (driven-sized input),
+    )
 
 pub drive-short : DriveShort
 unfolding driveText tooLong

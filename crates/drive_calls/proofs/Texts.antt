@@ -41,9 +41,10 @@ module _ (s : State) (input : List ℕ) where
 
   stops-so : commandAt input ≡ bad → (linesFrom s input ≡ refusal 16) × (stateFrom s input ≡ s)
   unfolding drivenFrom joined
-  stops-so e =
-      (ap (λ (d : Driven). joined (d .lines)) (drive-turn .stops [] s input e) ∙ append-nil (refusal 16),
-      ap (λ (d : Driven). d .state) (drive-turn .stops [] s input e))
+  stops-so e = (
+    ap (λ (d : Driven). joined (d .lines)) (drive-turn .stops [] s input e) ∙ append-nil (refusal 16),
+    ap (λ (d : Driven). d .state) (drive-turn .stops [] s input e),
+  )
 
   goes-so : (k : Call) (rest : List ℕ) → commandAt input ≡ command k rest
       → (linesFrom s input ≡ lineOf s k ++ linesFrom (callOf s k .state) rest) × (stateFrom s input ≡ stateFrom (callOf s k .state) rest)

@@ -92,7 +92,7 @@ unfolding drivenIn
 turn-by h s input p e =
     turns-same (length input) (suc (length input)) h s input (omega arith) (omega arith)
     ∙ on-same (commandAt input) (length input) h s (drivenIn (length input)) drivenRest
-      (λ h′ s′ rest l. turns-same (length input) (length rest) h′ s′ rest (omega (arith, l)) (omega arith)) (shorter input)
+    (λ h′ s′ rest l. turns-same (length input) (length rest) h′ s′ rest (omega (arith, l)) (omega arith)) (shorter input)
     ∙ ap (λ (q : Parsed). drivenOn q h s drivenRest) e
 
 pub drive-turn : DriveTurn

@@ -11,12 +11,17 @@ use call_decide::AtPosition;
 use fields::u64_at;
 
 pub const CREATE: u8 = 1;
+
 pub const APPEND: u8 = 2;
+
 pub const TRUNCATE: u8 = 3;
+
 pub const DELETE: u8 = 4;
 
 const NAME_LEN: usize = 8;
+
 const POSITION_LEN: usize = 8;
+
 const PAYLOAD_LEN: usize = 16;
 
 // How many bytes the operands of a command take; 0 for an unknown one.

@@ -54,9 +54,10 @@ module _ (out : List ℕ) (at : ℕ) (text : List ℕ) where
   pub in-it : (r x : Listed) (part : List ℕ) → at ≤ length out → x ≡ listed (length out - at) (length text) → r ≡ onListed at x
       → part ≡ written (zeros (length out - at)) 0 text → (r ≡ listedBehind (length out) at text) × (take at out ++ part ≡ leftBehind out at text)
   unfolding listedBehind leftBehind
-  in-it r x part h e f g =
-      (f ∙ ap (onListed at) e ∙ sym (ap (λ (t : Bool). cond t noRoom (onListed at (listed (length out - at) (length text)))) (le-ltb (length out) at h)),
-      ap (λ (l : List ℕ). take at out ++ l) g ∙ sym (ap (λ (t : Bool). cond t out (take at out ++ written (zeros (length out - at)) 0 text)) (le-ltb (length out) at h)))
+  in-it r x part h e f g = (
+    f ∙ ap (onListed at) e ∙ sym (ap (λ (t : Bool). cond t noRoom (onListed at (listed (length out - at) (length text)))) (le-ltb (length out) at h)),
+    ap (λ (l : List ℕ). take at out ++ l) g ∙ sym (ap (λ (t : Bool). cond t out (take at out ++ written (zeros (length out - at)) 0 text)) (le-ltb (length out) at h)),
+  )
 
   -- the part behind the place, lent and back
   pub in-part : (r x : Listed) (ys : List ℕ) → at ≤ length out → x ≡ listed (length (take (length out - at) (drop at out))) (length text) → r ≡ onListed at x
@@ -133,21 +134,23 @@ module _ (n : ℕ) (t : List ℕ) (at : ℕ) (out : List ℕ) (w : Wrote (zeros 
   over : n < length t → (listedBehind n at text ≡ listed n (length (t ++ text))) × (leftBehind out at text ≡ written (zeros n) 0 (t ++ text))
   over h =
       let l : n < at = subst (λ (p : ℕ). n < p) (sym place-is) (past-over n (length t) h) in
-      let p = past out at text (omega (arith, long, l)) in
-      (ap (λ (m : ℕ). listedBehind m at text) (sym long) ∙ sym (p .0) ∙ listed-no-room n (length (t ++ text)) (omega (arith, sum, h)),
-      sym (p .1) ∙ sym (written-out out at text (omega (arith, long, l))) ∙ sym whole)
+      let p = past out at text (omega (arith, long, l)) in (
+        ap (λ (m : ℕ). listedBehind m at text) (sym long) ∙ sym (p .0) ∙ listed-no-room n (length (t ++ text)) (omega (arith, sum, h)),
+        sym (p .1) ∙ sym (written-out out at text (omega (arith, long, l))) ∙ sym whole,
+      )
 
   fits : length t ≤ n → (listedBehind n at text ≡ listed n (length (t ++ text))) × (leftBehind out at text ≡ written (zeros n) 0 (t ++ text))
   fits h =
       let e : at ≡ length t = place-is ∙ behind-in n 0 (length t) (omega (arith, h)) ∙ omega arith in
       let o : out ≡ t ++ zeros (n - length t) = w .buffer ∙ zeros-left n t h in
-      let p = in-it out at text (onListed at (listed (length out - at) (length text))) (listed (length out - at) (length text)) (written (zeros (length out - at)) 0 text) (omega (arith, e, long, h)) refl refl refl in
-      (ap (λ (m : ℕ). listedBehind m at text) (sym long) ∙ sym (p .0) ∙ ap (λ (m : ℕ). onListed at (listed (m - at) (length text))) long
-      ∙ listed-add n at (length text) (omega (arith, e, h)) ∙ ap (listed n) (ap (λ (k : ℕ). k + length text) e ∙ sym sum),
-      sym (p .1)
-      ∙ ap₂ (λ (l : List ℕ) (m : ℕ). l ++ written (zeros m) 0 text) (ap₂ (λ (k : ℕ) (l : List ℕ). take k l) e o ∙ take-at t (zeros (n - length t)) (length t) refl)
-        (ap₂ (λ (a b : ℕ). a - b) long e)
-      ∙ sym (put-behind t (zeros (n - length t)) text) ∙ ap₂ (λ (l : List ℕ) (p : ℕ). written l p text) (sym o) (sym e) ∙ sym whole)
+      let p = in-it out at text (onListed at (listed (length out - at) (length text))) (listed (length out - at) (length text)) (written (zeros (length out - at)) 0 text) (omega (arith, e, long, h)) refl refl refl in (
+        ap (λ (m : ℕ). listedBehind m at text) (sym long) ∙ sym (p .0) ∙ ap (λ (m : ℕ). onListed at (listed (m - at) (length text))) long
+            ∙ listed-add n at (length text) (omega (arith, e, h)) ∙ ap (listed n) (ap (λ (k : ℕ). k + length text) e ∙ sym sum),
+        sym (p .1)
+            ∙ ap₂ (λ (l : List ℕ) (m : ℕ). l ++ written (zeros m) 0 text) (ap₂ (λ (k : ℕ) (l : List ℕ). take k l) e o ∙ take-at t (zeros (n - length t)) (length t) refl)
+            (ap₂ (λ (a b : ℕ). a - b) long e)
+            ∙ sym (put-behind t (zeros (n - length t)) text) ∙ ap₂ (λ (l : List ℕ) (p : ℕ). written l p text) (sym o) (sym e) ∙ sym whole,
+      )
 
   pub both : (listedBehind n at text ≡ listed n (length (t ++ text))) × (leftBehind out at text ≡ written (zeros n) 0 (t ++ text))
   both = by-test (ltb n (length t)) (λ yes. over (ltb-true n (length t) yes)) (λ no. fits (ltb-false n (length t) no))
@@ -163,9 +166,10 @@ printed input out₀ log₀ {log′ = log′} {out₂ = out₂} {at = at} b l e 
     let v : Wrote (zeros n) 0 t at out₂ = subst (λ (s : List ℕ). Wrote s 0 t at out₂) e (d .lines) in
     let p = both n t at out₂ v (cardText log′) in
     let g : log′ ≡ driveLog input log₀ = d .log-left ∙ sym (log-is input l log₀) in
-    let x : t ++ cardText log′ ≡ driveText input = ap (λ (c : List ℕ). t ++ cardText c) g ∙ sym (drive-lists input log₀ b l) in
-    (w .0 ∙ ap (λ (m : ℕ). listedBehind m at (cardText log′)) (long n t at out₂ v (cardText log′)) ∙ p .0 ∙ ap (λ (c : List ℕ). listed n (length c)) x,
-    (w .1 ∙ p .1 ∙ ap (written (zeros n) 0) x, g))
+    let x : t ++ cardText log′ ≡ driveText input = ap (λ (c : List ℕ). t ++ cardText c) g ∙ sym (drive-lists input log₀ b l) in (
+      w .0 ∙ ap (λ (m : ℕ). listedBehind m at (cardText log′)) (long n t at out₂ v (cardText log′)) ∙ p .0 ∙ ap (λ (c : List ℕ). listed n (length c)) x,
+      (w .1 ∙ p .1 ∙ ap (written (zeros n) 0) x, g),
+    )
 
 -- an input that is too long
 pub refused-so : (input out₀ log₀ : List ℕ) {out₁ out₂ : List ℕ} {r : Listed} → 65536 < length input → out₁ ≡ zeros (length out₀)
