@@ -18,6 +18,20 @@
 #include <stddef.h>
 #include <stdint.h>
 
+#ifdef __cplusplus
+extern "C" {
+#endif
+
+/* Sizes. A log has 1 to MRECORDLOG_MAX_BLOCKS blocks; tables as long as MRECORDLOG_ENTRIES_LEN(n) and MRECORDLOG_TABLE_LEN(n) hold n records and n queues. */
+#define MRECORDLOG_BLOCK_LEN 32768
+#define MRECORDLOG_MAX_BLOCKS 4096
+#define MRECORDLOG_MAX_NAME_LEN 65535
+#define MRECORDLOG_MAX_PAYLOADS 128
+#define MRECORDLOG_MAX_QUEUES 64
+#define MRECORDLOG_MAX_RECORDS 1024
+#define MRECORDLOG_ENTRIES_LEN(records) (24 * (size_t)(records))
+#define MRECORDLOG_TABLE_LEN(queues) (8 * (4 + 3 * (size_t)(queues)))
+
 /* The numbers by name. */
 #define MRECORDLOG_LOG_SIZE 1
 #define MRECORDLOG_NAME_TOO_LONG 2
@@ -107,7 +121,8 @@ uint64_t mrecordlog_positions(const uint8_t *names, size_t names_len,
 
 /* The queues that the records of the log give, from no queues whatever the queue memory holds. lost: the number of corruption answers. lost_bytes: what is lost in
  * bytes: frames, header and data, with a wrong checksum; from each unreadable header or over-long frame to its block's end; and sound frames of no record handed out,
- * so that it may be above 0 where lost is 0. resumed: the place in the log where a writer resumes. Refused: all three are 0. */
+ * so that it may be above 0 where lost is 0. resumed: the place in the log where a writer resumes: take it as the write position of the next call. It may lie behind
+ * the place where the last call ended, by the padding due there or by what is damaged. Refused: all three are 0. */
 uint64_t mrecordlog_replay(const uint8_t *log, size_t log_len,
                            uint8_t *scratch, size_t scratch_len,
                            uint8_t *names, size_t names_len,
@@ -160,5 +175,9 @@ uint64_t mrecordlog_report_feed(uint8_t *report, size_t report_len, const uint8_
  * arranged. */
 uint64_t mrecordlog_report_mean(const uint8_t *report, size_t report_len,
                                 uint64_t *found, uint64_t *whole, uint64_t *remainder, uint64_t *count);
+
+#ifdef __cplusplus
+}
+#endif
 
 #endif

@@ -1,50 +1,71 @@
-/* 01's example through the C header, in tables for one queue and eight records: a queue "a", an append of "one" and an empty payload to one zeroed block, the records by range, and a replay of that log. */
+/* Opens a log of one zeroed block, appends, lists the queue by range, opens the log again as a program would that starts anew, reads its records one by one, and copies
+ * what is held into a fresh log. */
 #include <inttypes.h>
 #include <stdio.h>
+#include <stdlib.h>
 #include <string.h>
 
 #include "mrecordlog.h"
 
-enum { BLOCK = 32768, NAMES = 64, PAYLOADS = 1024, ENTRIES = 8 * 24, TABLE = (4 + 3) * 8, SCRATCH = 256 };
+enum { BLOCK = MRECORDLOG_BLOCK_LEN, NAMES = 64, PAYLOADS = 1024, SCRATCH = 256, ENTRIES = MRECORDLOG_ENTRIES_LEN(8), TABLE = MRECORDLOG_TABLE_LEN(1) };
 
-static uint8_t block[BLOCK], scratch[SCRATCH], names[NAMES], payloads[PAYLOADS], entries[ENTRIES], table[TABLE];
+static uint8_t block[BLOCK], fresh[BLOCK], scratch[SCRATCH], names[NAMES], payloads[PAYLOADS], entries[ENTRIES], table[TABLE];
 static const uint8_t name[] = {'a'};
+
+/* Ends the program where a call was refused. */
+static void taken(const char *call, uint64_t refused) {
+    if (refused) {
+        printf("%s: refused %" PRIu64 "\n", call, refused);
+        exit(1);
+    }
+}
+
+/* The queues of a log, and the place where a writer resumes. */
+static size_t open_log(const uint8_t *log) {
+    uint64_t lost, lost_bytes, resumed;
+    taken("replay", mrecordlog_replay(log, BLOCK, scratch, SCRATCH, names, NAMES, payloads, PAYLOADS, entries, ENTRIES, table, TABLE, &lost, &lost_bytes, &resumed));
+    printf("open: lost bytes %" PRIu64 ", resumed %" PRIu64 "\n", lost_bytes, resumed);
+    return (size_t)resumed;
+}
 
 /* All records of the queue, each asked for by "after" the one before. */
 static void list(void) {
     uint64_t kind = 0, after = 0, found = 1, start, length;
     while (found) {
-        uint64_t refused = mrecordlog_range(names, NAMES, payloads, PAYLOADS, entries, ENTRIES, table, TABLE, name, 1,
-                                            kind, after, 0, 0, &found, &after, &start, &length);
-        if (refused) {
-            printf("refused %" PRIu64 "\n", refused);
-            return;
-        }
+        taken("range", mrecordlog_range(names, NAMES, payloads, PAYLOADS, entries, ENTRIES, table, TABLE, name, 1, kind, after, 0, 0, &found, &after, &start, &length));
         kind = 2;
         if (found)
             printf("record %" PRIu64 " '%.*s'\n", after, (int)length, (const char *)payloads + start);
     }
 }
 
+/* The records of a log, one read after another. */
+static void read_log(const uint8_t *log) {
+    size_t reader_block = 0, cursor = 0;
+    uint64_t spoilt = 0, kind = 1, position, name_start, name_len, items_start, items_len;
+    while (kind) {
+        taken("read", mrecordlog_read(log, BLOCK, scratch, SCRATCH, &reader_block, &cursor, &spoilt, &kind, &position, &name_start, &name_len, &items_start, &items_len));
+        printf("read: kind %" PRIu64 ", position %" PRIu64 ", %" PRIu64 " bytes of items\n", kind, position, items_len);
+    }
+}
+
 int main(void) {
-    size_t place = 0;
-    uint64_t refused, frame_bytes, padding_bytes, has_last, last, lost, lost_bytes, resumed, start, next;
+    uint64_t frame_bytes, padding_bytes, has_last, last, end;
     const uint64_t lens[] = {3, 0};
-    refused = mrecordlog_create(block, BLOCK, &place, scratch, SCRATCH, names, NAMES, payloads, PAYLOADS, entries, ENTRIES, table, TABLE, name, 1,
-                                &frame_bytes, &padding_bytes);
-    printf("create: refused %" PRIu64 ", bytes %" PRIu64 " + %" PRIu64 "\n", refused, frame_bytes, padding_bytes);
-    refused = mrecordlog_append(block, BLOCK, &place, scratch, SCRATCH, names, NAMES, payloads, PAYLOADS, entries, ENTRIES, table, TABLE, name, 1,
-                                0, 0, (const uint8_t *)"one", 3, lens, 2, &has_last, &last, &frame_bytes, &padding_bytes);
-    printf("append: refused %" PRIu64 ", last %" PRIu64 ", bytes %" PRIu64 " + %" PRIu64 "\n", refused, last, frame_bytes, padding_bytes);
+    size_t place = open_log(block);
+    taken("create", mrecordlog_create(block, BLOCK, &place, scratch, SCRATCH, names, NAMES, payloads, PAYLOADS, entries, ENTRIES, table, TABLE, name, 1,
+                                      &frame_bytes, &padding_bytes));
+    printf("create: bytes %" PRIu64 " + %" PRIu64 "\n", frame_bytes, padding_bytes);
+    taken("append", mrecordlog_append(block, BLOCK, &place, scratch, SCRATCH, names, NAMES, payloads, PAYLOADS, entries, ENTRIES, table, TABLE, name, 1,
+                                      0, 0, (const uint8_t *)"one", 3, lens, 2, &has_last, &last, &frame_bytes, &padding_bytes));
+    printf("append: last %" PRIu64 ", bytes %" PRIu64 " + %" PRIu64 "\n", last, frame_bytes, padding_bytes);
     list();
-    memset(names, 0, NAMES);
-    memset(payloads, 0, PAYLOADS);
-    memset(entries, 0, ENTRIES);
-    memset(table, 0, TABLE);
-    refused = mrecordlog_replay(block, BLOCK, scratch, SCRATCH, names, NAMES, payloads, PAYLOADS, entries, ENTRIES, table, TABLE, &lost, &lost_bytes, &resumed);
-    printf("replay: refused %" PRIu64 ", lost %" PRIu64 ", lost bytes %" PRIu64 ", resumed %" PRIu64 "\n", refused, lost, lost_bytes, resumed);
-    refused = mrecordlog_positions(names, NAMES, payloads, PAYLOADS, entries, ENTRIES, table, TABLE, name, 1, &start, &next);
-    printf("positions: refused %" PRIu64 ", start %" PRIu64 ", next %" PRIu64 "\n", refused, start, next);
+    open_log(block);
+    list();
+    read_log(block);
+    taken("copy", mrecordlog_copy(fresh, BLOCK, scratch, SCRATCH, names, NAMES, payloads, PAYLOADS, entries, ENTRIES, table, TABLE, &end));
+    printf("copy: %" PRIu64 " bytes used\n", end);
+    open_log(fresh);
     list();
     return 0;
 }
