@@ -1,5 +1,6 @@
-// Drives the inputs that standard input holds, one after the other: the text of each, then the CRC-32 of the log that it leaves, and an empty line. An input is
-// stored in parts: how many times a part stands there and its length, two bytes each, the low one first, then its bytes; a part that stands there 0 times ends it.
+// Drives the inputs that standard input holds, one after the other: the text of each, then the CRC-32 of the log that it leaves, and an empty line.
+// An input is stored in parts: how many times a part stands there and its length, two bytes each, the low one first, then its bytes; a part that stands
+// there 0 times ends it.
 use listing::Listed;
 use listing::put_bytes;
 
