@@ -128,7 +128,7 @@ told-left (left qs) lost lost′ bytes bytes′ p p′ e = (qs, refl, cc)
 
 module _ (log scratch : List ℕ) (m : Memory) (l₀ : Lent) (o : Opened log scratch m l₀) where
   -- the queues that replay gave, and the place
-  found : (qs : List Queue) × (replayOf log (capacities m) (length scratch) ≡ left qs) × (l₀ .place ≡ resume log (length scratch))
+  pub found : (qs : List Queue) × (replayOf log (capacities m) (length scratch) ≡ left qs) × (l₀ .place ≡ resume log (length scratch))
   found =
       told-left (replayOf log (capacities m) (length scratch)) (o .lost) (lostIn (readings log (length scratch))) (o .lost-bytes) (lostBytes log (length scratch)) (l₀ .place) (resume log (length scratch))
       (answers log scratch (l₀ .scratch) m (l₀ .memory) (replayed (o .lost) (o .lost-bytes) (l₀ .place)) (o .kept) (replayOf log (capacities m) (length scratch)) refl)
@@ -140,7 +140,7 @@ module _ (log scratch : List ℕ) (m : Memory) (l₀ : Lent) (o : Opened log scr
   unfolding outcomeQueues
   memory-is = leaves log scratch (l₀ .scratch) m (l₀ .memory) (replayed (o .lost) (o .lost-bytes) (l₀ .place)) (o .kept) legal-opened (left (found .0)) (found .1)
 
-  opened-means : stateOf l₀ ≡ reopened log (capacities m) (found .0) (length scratch)
+  pub opened-means : stateOf l₀ ≡ reopened log (capacities m) (found .0) (length scratch)
   unfolding stateOf replayScratch
   opened-means =
       same-state (stateOf l₀) (reopened log (capacities m) (found .0) (length scratch))
