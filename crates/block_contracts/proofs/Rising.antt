@@ -34,9 +34,7 @@ use Rattle.cut_calls.specs.Claims as Since
 use Rattle.contracts.specs.Contracts.{Lent, stateOf}
 use Rattle.contracts.proofs.Runs.{run-means}
 use Rattle.cut_contracts.proofs.PowerCut.{since-means, found, opened-means}
-use Rattle.block_contracts.specs.Blocks.{NeverFall, QueuesRise}
-use Rattle.block_contracts.specs.Promises.{BlocksRise}
-use Rattle.block_contracts.specs.Rising.{StatesKeepRising, ReplayRises, StatesRise, BlocksRiseFromStart}
+use Rattle.block_contracts.specs.Rising.{NeverFall, QueuesRise, StatesKeepRising, ReplayRises, StatesRise, BlocksRise, BlocksRiseFromStart}
 
 -- ---- records of one queue
 

@@ -3,11 +3,11 @@
 -- its name with hyphens.
 -- Assumes nothing.
 use mathlib.Core.Path.{_≡_}
-use mathlib.Core.List.{List}
-use Prim.Native.Nat.{ℕ}
+use mathlib.Core.List.{List, [], _∷_}
+use Prim.Native.Nat.{ℕ, _≤_}
 use Rattle.recordlog.specs.Placed.{headerBlock}
-use Rattle.queues.specs.Queues.{Queue, Capacities}
-use Rattle.queues.specs.Layout.{meaning}
+use Rattle.queues.specs.Queues.{Stored, Queue, Capacities}
+use Rattle.queues.specs.Layout.{Memory, meaning}
 use Rattle.calls.specs.State.{State}
 use Rattle.calls.specs.Replay.{left, replayOf}
 use Rattle.calls.specs.Machine.{Fed}
@@ -15,7 +15,17 @@ use Rattle.calls.specs.Run.{StatesRun}
 use Rattle.cut_calls.specs.Claims.{reopened, StatesSince}
 use Rattle.contracts.specs.Contracts.{Lent}
 use Rattle.contracts.specs.Run.{Run}
-use Rattle.block_contracts.specs.Blocks.{QueuesRise}
+use Rattle.cut_contracts.specs.Claims.{Opened, Since}
+
+-- the blocks of these records never fall, from lo on, and none is above hi
+abbrev pub NeverFall : ℕ → ℕ → List Stored → Type 0
+NeverFall lo hi [] = lo ≤ hi
+NeverFall lo hi (i ∷ is) = (lo ≤ i .block) × NeverFall (i .block) hi is
+
+-- so in each queue
+abbrev pub QueuesRise : ℕ → List Queue → Type 0
+QueuesRise hi [] = Unit {0}
+QueuesRise hi (q ∷ qs) = NeverFall 0 hi (q .records) × QueuesRise hi qs
 
 -- ---- over states
 
@@ -33,6 +43,11 @@ abbrev pub StatesRise : Type 0
 StatesRise = (h : List Fed) (s : State) → StatesRun h s → QueuesRise (headerBlock (s .place)) (s .queues)
 
 -- ---- over the lent memory
+
+-- from open on: any log that replay did not refuse, any memory and scratch; then every list of calls, each lent what the one before left
+abbrev pub BlocksRise : Type 0
+BlocksRise = (log scratch : List ℕ) (m : Memory) (l₀ : Lent) → Opened log scratch m l₀ → (h : List Fed) (l : Lent) → Since l₀ h l
+    → QueuesRise (headerBlock (l .place)) (meaning (l .memory))
 
 -- from an empty start
 abbrev pub BlocksRiseFromStart : Type 0
