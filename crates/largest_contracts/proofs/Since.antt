@@ -12,7 +12,7 @@ use Rattle.queues.specs.Queues.{Queue, Capacities}
 use Rattle.queues.specs.Layout.{Memory, heldEntries, capacities, Leaves}
 use Rattle.queues.proofs.Parts.{place-numbered}
 use Rattle.queues.proofs.Both.{and-left}
-use Rattle.calls.specs.State.{bytesWritten}
+use Rattle.calls.specs.State.{queueBytes}
 use Rattle.calls.specs.Calls.{callOf}
 use Rattle.calls.specs.Machine.{Fed}
 use Rattle.calls.specs.Replay.{replayOf, outcomeQueues}
@@ -56,7 +56,7 @@ holds : {l₀ l : Lent} {h : List Fed} (ks : List ℕ) → NotSix (l₀ .memory)
 unfolding tableAfter
 holds ks o none = o
 holds ks o (call {h} {l} k a l′ s w) =
-    call-holds (bytesWritten (callOf (stateOf l) k .answer)) (l .memory) (l′ .memory) (tableAfter ks s) (callOf (stateOf l) k .state .queues) (holds ks o s) (w .memory-left)
+    call-holds (queueBytes k (callOf (stateOf l) k .answer)) (l .memory) (l′ .memory) (tableAfter ks s) (callOf (stateOf l) k .state .queues) (holds ks o s) (w .memory-left)
 
 pub since-holds : SinceHolds
 since-holds l₀ l h ks o s = holds ks (starts-hold o) s

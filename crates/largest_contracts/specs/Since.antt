@@ -7,7 +7,7 @@ use mathlib.Core.List.{List}
 use Prim.Native.Nat.{ℕ, zero, suc, _≤_}
 use lib.ListN.{length}
 use Rattle.queues.specs.Layout.{Memory, arranged}
-use Rattle.calls.specs.State.{bytesWritten}
+use Rattle.calls.specs.State.{queueBytes}
 use Rattle.calls.specs.Refusals.{logRefused}
 use Rattle.calls.specs.Calls.{callOf}
 use Rattle.calls.specs.Machine.{Fed}
@@ -24,7 +24,7 @@ tableLeft (suc n) ks m = keptLeft ks m
 -- the table after a list of calls, each lent what the one before left
 unfoldable pub tableAfter : {l₀ l : Lent} {h : List Fed} → List ℕ → Since l₀ h l → List ℕ
 tableAfter ks none = ks
-tableAfter ks (call {h} {l} k a l′ s w) = tableLeft (bytesWritten (callOf (stateOf l) k .answer)) (tableAfter ks s) (l′ .memory)
+tableAfter ks (call {h} {l} k a l′ s w) = tableLeft (queueBytes k (callOf (stateOf l) k .answer)) (tableAfter ks s) (l′ .memory)
 
 -- What the first call is lent: memory and table that are not 6, an empty start's too; or what replay left of any log that is not refused 1, whatever a table that is
 -- long enough held.
