@@ -136,6 +136,7 @@ module _ (s s′ : State) (ls : List Listed) (l : Listed) (w : Standing s ls) (v
       same-length = refl;
       formed = tt;
       owns = tt;
+      sound = refl;
       same-room = refl;
       replayed = refl;
     };
