@@ -39,6 +39,13 @@ pub struct Record {
     pub items: Vec<(u64, Vec<u8>)>,
 }
 
+/// A mark (02, "Shift marks, seen by old and new desks"): "position field as a shift number, an empty name, body of exactly 8 bytes".
+#[derive(Clone, Copy, Debug, PartialEq, Eq)]
+pub struct Mark {
+    pub shift: u64,
+    pub body: [u8; 8],
+}
+
 /// Why a read gave no record: the port's kinds 5 to 8.
 #[derive(Clone, Copy, Debug, PartialEq, Eq)]
 #[repr(u64)]
@@ -54,7 +61,18 @@ pub enum Corruption {
 pub enum Reading {
     End,
     Record(Record),
+    Mark(Mark),
     Corrupt(Corruption),
+}
+
+impl Reading {
+    /// The Rust's answer: "An old desk, and the Rust, give one corruption answer for it and go on."
+    pub fn before(self) -> Self {
+        match self {
+            Reading::Mark(_) => Reading::Corrupt(Corruption::Record),
+            other => other,
+        }
+    }
 }
 
 /// Where a reader stands.

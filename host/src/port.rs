@@ -1,7 +1,7 @@
 //! A safe wrapper over the port's exported entries (include/mrecordlog.h): it owns all that is lent.
 
 use crate::frames::items_of;
-use crate::plain::{Bound, Call, Corruption, Counts, Done, Reader, Reading, Record, Type};
+use crate::plain::{Bound, Call, Corruption, Counts, Done, Mark, Reader, Reading, Record, Type};
 
 #[rustfmt::skip]
 extern "C" {
@@ -22,6 +22,8 @@ extern "C" {
         largest: *mut u8, largest_len: usize, table: *mut u8, table_len: usize,
         name: *const u8, name_len: usize, named: u64, position: u64, run: *const u8, run_len: usize, lens: *const u64, lens_len: usize,
         has_last: *mut u64, last_position: *mut u64, frame_bytes: *mut u64, padding_bytes: *mut u64) -> u64;
+    fn mrecordlog_mark(log: *mut u8, log_len: usize, write_position: *mut usize, scratch: *mut u8, scratch_len: usize, shift: u64, clock: u64,
+        frame_bytes: *mut u64, padding_bytes: *mut u64) -> u64;
     fn mrecordlog_range(names: *const u8, names_len: usize, payloads: *const u8, payloads_len: usize, entries: *const u8, entries_len: usize,
         largest: *const u8, largest_len: usize, table: *const u8, table_len: usize, name: *const u8, name_len: usize, lower_kind: u64, lower: u64, upper_kind: u64, upper: u64,
         found: *mut u64, position: *mut u64, start: *mut u64, length: *mut u64) -> u64;
@@ -210,6 +212,12 @@ pub fn read_by(log: &[u8], scratch: &mut [u8], block: &mut usize, cursor: &mut u
             _ => of(Type::Delete),
         };
     }
+    if kind == 9 {
+        return match (values, part(scratch, items_start, items_len)?.try_into()) {
+            ([_, 0, 0, 11, 8], Ok(body)) => Ok(Reading::Mark(Mark { shift: position, body })),
+            _ => Err(Refused::WithValues(0)),
+        };
+    }
     match kind {
         _ if values != [0; 5] => Err(Refused::WithValues(0)),
         0 => Ok(Reading::End),
@@ -326,6 +334,21 @@ impl Port {
             (1, _) => Ok((Some(last), counts)),
             _ => Err(Refused::WithValues(0)),
         }
+    }
+
+    /// A mark: the bytes written. It is lent no queue memory.
+    pub fn mark(&mut self, shift: u64, clock: u64) -> Result<Counts, Refused> {
+        let (mut frame, mut padding) = (UNSET, UNSET);
+        // Safety: each slice is given by its own pointer and length, and none overlaps another.
+        #[rustfmt::skip]
+        let number = unsafe {
+            mrecordlog_mark(
+                self.log.as_mut_ptr(), self.log.len(), &mut self.write_position, self.scratch.as_mut_ptr(), self.scratch.len(), shift, clock,
+                &mut frame, &mut padding,
+            )
+        };
+        refused(number, &[frame, padding])?;
+        Ok(Counts { frame, padding })
     }
 
     pub fn call(&mut self, call: &Call) -> Result<Done, Refused> {
