@@ -7,9 +7,10 @@ use Prim.Native.Nat.{ℕ, zero, suc}
 use lib.Dec.{eqb}
 use lib.ListN.{length, drop}
 use Rattle.record.specs.Record.{Record, truncate, touch, delete, append, mark}
-use Rattle.queues.specs.Queues.{Queue}
+use Rattle.queues.specs.Queues.{find}
 use Rattle.calls.specs.State.{State, Call, createCall, deleteCall, truncateCall, appendCall, markCall}
 use Rattle.calls.specs.Payloads.{givesEmpty, firstPosition, itemsAt}
+use Rattle.calls.specs.Named.{nextOf}
 use Rattle.calls.specs.Calls.{callOf}
 use Rattle.calls.specs.Machine.{Listed, Machine, Fed, puts, putsAppend, machineCall, machine, recordsOf}
 use Rattle.calls.specs.Marks.{shiftsOf}
@@ -90,9 +91,12 @@ unfolding machineCall puts putsAppend shiftsOf
 call-shifts m (createCall n) u = shifts-end (m .records) _ refl
 call-shifts m (deleteCall n) u = shifts-end (m .records) _ refl
 call-shifts m (truncateCall n e) u = shifts-end (m .records) _ refl
-call-shifts m (appendCall n a run ks) u = by (givesEmpty a _ ks)
+call-shifts m (appendCall n a run ks) u = by (givesEmpty a next ks)
   where
-    by : (b : Bool) → shiftsIn (cond b m (putsAppend m n (firstPosition a _) (itemsAt (firstPosition a _) run ks))) ≡ shiftsIn m
+    next : ℕ
+    next = nextOf (find n (m .queues))
+
+    by : (b : Bool) → shiftsIn (cond b m (putsAppend m n (firstPosition a next) (itemsAt (firstPosition a next) run ks))) ≡ shiftsIn m
     by true = refl
     by false = shifts-end (m .records) _ refl
 call-shifts m (markCall n body) u = absurd u
@@ -100,8 +104,8 @@ call-shifts m (markCall n body) u = absurd u
 pub no-shifts : (h : List Fed) → AllUnmarked h → shiftsIn (machine h) ≡ []
 unfolding machine shiftsOf
 no-shifts [] u = refl
-no-shifts (f ∷ h) u = by (f .refused)
+no-shifts (f ∷ h) u = by (f .refused) (no-shifts h (u .1))
   where
-    by : (b : Bool) → shiftsIn (cond b (machine h) (machineCall (machine h) (f .asked))) ≡ []
-    by true = no-shifts h (u .1)
-    by false = call-shifts (machine h) (f .asked) (u .0) ∙ no-shifts h (u .1)
+    by : (b : Bool) → shiftsIn (machine h) ≡ [] → shiftsIn (cond b (machine h) (machineCall (machine h) (f .asked))) ≡ []
+    by true e = e
+    by false e = call-shifts (machine h) (f .asked) (u .0) ∙ e
