@@ -51,7 +51,8 @@ fn refusals_change_nothing() {
     assert_eq!(log.append(b"a", Some(3), &[b"x"]), Err(Refused::Number(9)));
     assert_eq!(log.append_run(b"a", None, b"xy", &[1]), Err(Refused::Number(5)));
     assert_eq!(log.create(&[0xff]), Err(Refused::Number(3)));
-    assert_eq!(log.append(b"a", None, &[&[0; 65]]), Err(Refused::Number(11)));
+    assert_eq!(log.append(b"a", None, &[&[0; 105]]), Err(Refused::Number(11)));
+    assert_eq!(log.append(b"a", None, &[&[0; 65]]), Err(Refused::Number(12)));
     assert_eq!(log, before);
     assert_eq!(Refused::Number(13).to_string(), "refused 13: the log is full");
 }
