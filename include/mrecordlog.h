@@ -1,10 +1,12 @@
 /* The exported entries of the queue log. Each returns 0, or the number of its refusal (1 to 15, 17 and 18, docs/REFUSALS.md); then all values that it
  * gives by a pointer are 0. A slice is a pointer and its length; no two slices may overlap, and none may be null, also where its length is 0.
  *
- * Lent to each call: the log, the scratch, and the queue memory: names, payloads, the record table `entries` and the table of queues `table`. Both tables may
- * have any length. Of `entries` the whole entries of 24 bytes count, at most 1,024; of `table` the whole words of 8 bytes, at most 196, which are 4 and 3 for each
- * queue; what lies behind them is never touched. A record, a queue, a name or a payload for which there is no room is refused 12. docs/LAYOUT.md gives the layout
- * of both, and says when the memory is arranged (refusal 6): what replay or a call left, lent again unchanged, always is. Queue memory of zeros holds no queues.
+ * Lent to each call: the log, the scratch, and the queue memory: names, payloads, the record table `entries`, the further table `largest` and the table of queues
+ * `table`. The tables may have any length. Of `entries` the whole entries of 24 bytes count, at most 1,024; of `largest` the whole numbers of 8 bytes, at most 1,024;
+ * of `table` the whole words of 8 bytes, at most 196, which are 4 and 3 for each queue; what lies behind them is never touched. A record, a queue, a name or a payload
+ * for which there is no room is refused 12. docs/LAYOUT.md gives the layout of the tables, and says when the memory is arranged (refusal 6): what replay or a call
+ * left, lent again unchanged, always is. Queue memory of zeros holds no queues. A further table with fewer numbers than `entries` has entries is 6 for every call,
+ * question, copy and replay; what it holds is no matter to replay.
  *
  * The numbers: 1 the log is under one block or over 4,096; 2 a name is over 65,535 bytes; 3 a name is not UTF-8; 4 position 2^64-1 is named; 5 over 128 payloads, or
  * lengths that do not sum to the bytes given; 6 the memory, the reader or the write position is not arranged; 7 the name is held; 8 it is not held; 9 the position is
@@ -22,7 +24,8 @@
 extern "C" {
 #endif
 
-/* Sizes. A log has 1 to MRECORDLOG_MAX_BLOCKS blocks; tables as long as MRECORDLOG_ENTRIES_LEN(n) and MRECORDLOG_TABLE_LEN(n) hold n records and n queues. */
+/* Sizes. A log has 1 to MRECORDLOG_MAX_BLOCKS blocks; tables as long as MRECORDLOG_ENTRIES_LEN(n), MRECORDLOG_LARGEST_LEN(n) and MRECORDLOG_TABLE_LEN(n) hold n records
+ * and n queues. */
 #define MRECORDLOG_BLOCK_LEN 32768
 #define MRECORDLOG_MAX_BLOCKS 4096
 #define MRECORDLOG_MAX_NAME_LEN 65535
@@ -30,6 +33,7 @@ extern "C" {
 #define MRECORDLOG_MAX_QUEUES 64
 #define MRECORDLOG_MAX_RECORDS 1024
 #define MRECORDLOG_ENTRIES_LEN(records) (24 * (size_t)(records))
+#define MRECORDLOG_LARGEST_LEN(records) (8 * (size_t)(records))
 #define MRECORDLOG_TABLE_LEN(queues) (8 * (4 + 3 * (size_t)(queues)))
 
 /* The numbers by name. */
@@ -60,6 +64,7 @@ uint64_t mrecordlog_create(uint8_t *log, size_t log_len, size_t *write_position,
                            uint8_t *names, size_t names_len,
                            uint8_t *payloads, size_t payloads_len,
                            uint8_t *entries, size_t entries_len,
+                           uint8_t *largest, size_t largest_len,
                            uint8_t *table, size_t table_len,
                            const uint8_t *name, size_t name_len,
                            uint64_t *frame_bytes, uint64_t *padding_bytes);
@@ -70,6 +75,7 @@ uint64_t mrecordlog_delete(uint8_t *log, size_t log_len, size_t *write_position,
                            uint8_t *names, size_t names_len,
                            uint8_t *payloads, size_t payloads_len,
                            uint8_t *entries, size_t entries_len,
+                           uint8_t *largest, size_t largest_len,
                            uint8_t *table, size_t table_len,
                            const uint8_t *name, size_t name_len,
                            uint64_t *frame_bytes, uint64_t *padding_bytes);
@@ -80,6 +86,7 @@ uint64_t mrecordlog_truncate(uint8_t *log, size_t log_len, size_t *write_positio
                              uint8_t *names, size_t names_len,
                              uint8_t *payloads, size_t payloads_len,
                              uint8_t *entries, size_t entries_len,
+                             uint8_t *largest, size_t largest_len,
                              uint8_t *table, size_t table_len,
                              const uint8_t *name, size_t name_len,
                              uint64_t through,
@@ -93,6 +100,7 @@ uint64_t mrecordlog_append(uint8_t *log, size_t log_len, size_t *write_position,
                            uint8_t *names, size_t names_len,
                            uint8_t *payloads, size_t payloads_len,
                            uint8_t *entries, size_t entries_len,
+                           uint8_t *largest, size_t largest_len,
                            uint8_t *table, size_t table_len,
                            const uint8_t *name, size_t name_len,
                            uint64_t named, uint64_t position,
@@ -106,6 +114,7 @@ uint64_t mrecordlog_append(uint8_t *log, size_t log_len, size_t *write_position,
 uint64_t mrecordlog_range(const uint8_t *names, size_t names_len,
                           const uint8_t *payloads, size_t payloads_len,
                           const uint8_t *entries, size_t entries_len,
+                          const uint8_t *largest, size_t largest_len,
                           const uint8_t *table, size_t table_len,
                           const uint8_t *name, size_t name_len,
                           uint64_t lower_kind, uint64_t lower, uint64_t upper_kind, uint64_t upper,
@@ -115,30 +124,43 @@ uint64_t mrecordlog_range(const uint8_t *names, size_t names_len,
 uint64_t mrecordlog_positions(const uint8_t *names, size_t names_len,
                               const uint8_t *payloads, size_t payloads_len,
                               const uint8_t *entries, size_t entries_len,
+                              const uint8_t *largest, size_t largest_len,
                               const uint8_t *table, size_t table_len,
                               const uint8_t *name, size_t name_len,
                               uint64_t *start, uint64_t *next);
 
+/* The largest payload that a queue holds: found 1, its length and its position, the lowest among equals; found 0: the queue is empty. */
+uint64_t mrecordlog_largest(const uint8_t *names, size_t names_len,
+                            const uint8_t *payloads, size_t payloads_len,
+                            const uint8_t *entries, size_t entries_len,
+                            const uint8_t *largest, size_t largest_len,
+                            const uint8_t *table, size_t table_len,
+                            const uint8_t *name, size_t name_len,
+                            uint64_t *found, uint64_t *length, uint64_t *position);
+
 /* The queues that the records of the log give, from no queues whatever the queue memory holds. lost: the number of corruption answers. lost_bytes: what is lost in
  * bytes: frames, header and data, with a wrong checksum; from each unreadable header or over-long frame to its block's end; and sound frames of no record handed out,
  * so that it may be above 0 where lost is 0. resumed: the place in the log where a writer resumes: take it as the write position of the next call. It may lie behind
- * the place where the last call ended, by the padding due there or by what is damaged. Refused: all three are 0. */
+ * the place where the last call ended, by the padding due there or by what is damaged. Refused: all three are 0; 1, and 6 for a short further table, leave scratch and
+ * memory as they were, the others leave no queues. */
 uint64_t mrecordlog_replay(const uint8_t *log, size_t log_len,
                            uint8_t *scratch, size_t scratch_len,
                            uint8_t *names, size_t names_len,
                            uint8_t *payloads, size_t payloads_len,
                            uint8_t *entries, size_t entries_len,
+                           uint8_t *largest, size_t largest_len,
                            uint8_t *table, size_t table_len,
                            uint64_t *lost, uint64_t *lost_bytes, uint64_t *resumed);
 
 /* A log cut down to what is held: the target's whole blocks are zeroed, and the queues written into it in byte order of their names, for each a touch at its start and
- * an append for each record held. Gives where the last frame ends, or 0; writing may go on there. It meets 1 (of the target), 6 (of the queue memory), 11 and 15, and
- * then leaves the target and the scratch as they were. The queue memory stays. */
+ * an append for each record held. Gives where the last frame ends, or 0; writing may go on there. It meets 1 (of the target), 6 (of the queue memory and the further
+ * table), 11 and 15, and then leaves the target and the scratch as they were. The queue memory stays. */
 uint64_t mrecordlog_copy(uint8_t *target, size_t target_len,
                          uint8_t *scratch, size_t scratch_len,
                          const uint8_t *names, size_t names_len,
                          const uint8_t *payloads, size_t payloads_len,
                          const uint8_t *entries, size_t entries_len,
+                         const uint8_t *largest, size_t largest_len,
                          const uint8_t *table, size_t table_len,
                          uint64_t *end);
 

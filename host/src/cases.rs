@@ -3,7 +3,7 @@
 use crate::frames;
 use crate::machine::{self, Machine, Room, PAYLOADS};
 use crate::plain::{Bound, Call, Queues, Record, Type, BLOCK, HEADER, LAST};
-use crate::port::{Memory, ENTRIES, TABLE};
+use crate::port::{Memory, ENTRIES, LARGEST, TABLE};
 use crate::random::Random;
 
 /// A step of a list: a call, a question, or closing and opening the log again, which is a replay.
@@ -631,7 +631,8 @@ pub fn hit(random: &mut Random, log: &mut [u8], frame: frames::Frame, of_checksu
 
 /// Queue memory in which all that may be anything is random: no queues.
 pub fn memory(random: &mut Random, names: usize, payloads: usize) -> Memory {
-    let mut memory = Memory { names: random.bytes(names), payloads: random.bytes(payloads), entries: random.bytes(ENTRIES), table: random.bytes(TABLE) };
+    let (names, payloads) = (random.bytes(names), random.bytes(payloads));
+    let mut memory = Memory { names, payloads, entries: random.bytes(ENTRIES), largest: random.bytes(LARGEST), table: random.bytes(TABLE) };
     memory.table[..32].fill(0);
     memory
 }
@@ -647,14 +648,14 @@ fn number(random: &mut Random, near: u64) -> u64 {
     }
 }
 
-/// Changes sound memory: a word of the tables, two words of one kind exchanged, a byte, or all of a slice.
+/// Changes sound memory: a word of the tables, two words of one kind exchanged, a byte, or all of a slice; or the length of the further table.
 pub fn disarrange(random: &mut Random, memory: &mut Memory) {
     let word = |bytes: &[u8], k: usize| u64::from_le_bytes(bytes[8 * k..8 * k + 8].try_into().unwrap());
     let queues = word(&memory.table, 0).min(64) as usize;
     let names = word(&memory.table, 1).min(memory.names.len() as u64) as usize;
     let records = word(&memory.table, 2).min(1024) as usize;
     let table_words = 4 + 3 * queues;
-    match random.below(21) {
+    match random.below(25) {
         0 => memory.table = random.bytes(TABLE),
         1 => memory.entries = random.bytes(ENTRIES),
         2..=8 => {
@@ -690,6 +691,19 @@ pub fn disarrange(random: &mut Random, memory: &mut Memory) {
         19 => {
             let k = random.below(8 * table_words);
             memory.table[k] = random.next() as u8;
+        }
+        20 | 21 if records > 0 => {
+            let k = random.below(records);
+            let changed = number(random, word(&memory.largest, k));
+            memory.largest[8 * k..8 * k + 8].copy_from_slice(&changed.to_le_bytes());
+        }
+        22 => {
+            let k = random.below((8 * records + 8).min(LARGEST));
+            memory.largest[k] = random.next() as u8;
+        }
+        23 => {
+            let len = *random.pick(&[LARGEST - 1, LARGEST - 8, 8 * records, 0]);
+            memory.largest.truncate(len);
         }
         _ => {
             let k = random.below((24 * records + 24).min(ENTRIES));

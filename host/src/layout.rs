@@ -1,8 +1,8 @@
-//! docs/LAYOUT.md: when lent queue memory is arranged, and which queues it means. Of the record table the whole entries of 24 bytes count, at most 1,024, of the table
-//! of queues the whole words, at most 196; a word that is not there counts as 0.
+//! docs/LAYOUT.md: when lent queue memory is arranged, and which queues it means. Of the record table the whole entries of 24 bytes count, at most 1,024, of the
+//! further table the whole numbers, at most 1,024, of the table of queues the whole words, at most 196; a word that is not there counts as 0.
 
 use crate::plain::{Queue, Queues, Reader, BLOCK, LAST};
-use crate::port::{Memory, ENTRIES, TABLE};
+use crate::port::{Memory, ENTRIES, LARGEST, TABLE};
 
 fn word(bytes: &[u8], at: usize) -> u64 {
     u64::from_le_bytes(bytes[8 * at..8 * at + 8].try_into().unwrap())
@@ -23,9 +23,32 @@ pub fn rows(memory: &Memory) -> usize {
     (words(memory).saturating_sub(4) / 3).min(64)
 }
 
-/// The bytes of both tables that do not count: no call touches them.
-pub fn behind(memory: &Memory) -> (&[u8], &[u8]) {
-    (&memory.entries[24 * entries(memory)..], &memory.table[8 * words(memory)..])
+/// How many numbers of the further table count.
+fn numbers(memory: &Memory) -> usize {
+    (memory.largest.len() / 8).min(LARGEST / 8)
+}
+
+/// The bytes of the tables that do not count: no call touches them.
+pub fn behind(memory: &Memory) -> (&[u8], &[u8], &[u8]) {
+    (&memory.entries[24 * entries(memory)..], &memory.largest[8 * numbers(memory)..], &memory.table[8 * words(memory)..])
+}
+
+/// 02, Ticket 8: "a further lent table as long as the record table; a shorter one is 6, on replay too".
+pub fn short(memory: &Memory) -> bool {
+    numbers(memory) < entries(memory)
+}
+
+/// What is kept with each used entry: the number of the entry with the longest payload among those of its queue up to it, the earlier of equals.
+fn kept(entries: &[(u64, u64, u64)]) -> Vec<u64> {
+    let mut longest = std::collections::HashMap::new();
+    let keep = |(i, entry): (usize, &(u64, u64, u64))| {
+        let best = longest.entry(entry.0).or_insert(i);
+        if entry.2 > entries[*best].2 {
+            *best = i;
+        }
+        *best as u64
+    };
+    entries.iter().enumerate().map(keep).collect()
 }
 
 fn table_word(memory: &Memory, at: usize) -> u64 {
@@ -50,7 +73,7 @@ fn sum(lengths: impl Iterator<Item = u64>) -> u128 {
     lengths.map(u128::from).sum()
 }
 
-/// The first of the 13 conditions that does not hold; none where the memory is arranged.
+/// The first of the 15 conditions that does not hold; none where the memory is arranged.
 pub fn fails(memory: &Memory) -> Option<u64> {
     let [queues, names, records, payloads] = [0, 1, 2, 3].map(|k| table_word(memory, k));
     if queues > 64 {
@@ -106,6 +129,12 @@ pub fn fails(memory: &Memory) -> Option<u64> {
     }
     if rows.iter().zip(&held).any(|(row, held)| row.1 == 0 && held.first().is_some_and(|&first| first != 0)) {
         return Some(13);
+    }
+    if short(memory) {
+        return Some(14);
+    }
+    if kept(&entries).iter().enumerate().any(|(i, &number)| word(&memory.largest, i) != number) {
+        return Some(15);
     }
     None
 }

@@ -6,28 +6,37 @@ use crate::plain::{Bound, Call, Corruption, Counts, Done, Reader, Reading, Recor
 #[rustfmt::skip]
 extern "C" {
     fn mrecordlog_create(log: *mut u8, log_len: usize, write_position: *mut usize, scratch: *mut u8, scratch_len: usize,
-        names: *mut u8, names_len: usize, payloads: *mut u8, payloads_len: usize, entries: *mut u8, entries_len: usize, table: *mut u8, table_len: usize,
+        names: *mut u8, names_len: usize, payloads: *mut u8, payloads_len: usize, entries: *mut u8, entries_len: usize,
+        largest: *mut u8, largest_len: usize, table: *mut u8, table_len: usize,
         name: *const u8, name_len: usize, frame_bytes: *mut u64, padding_bytes: *mut u64) -> u64;
     fn mrecordlog_delete(log: *mut u8, log_len: usize, write_position: *mut usize, scratch: *mut u8, scratch_len: usize,
-        names: *mut u8, names_len: usize, payloads: *mut u8, payloads_len: usize, entries: *mut u8, entries_len: usize, table: *mut u8, table_len: usize,
+        names: *mut u8, names_len: usize, payloads: *mut u8, payloads_len: usize, entries: *mut u8, entries_len: usize,
+        largest: *mut u8, largest_len: usize, table: *mut u8, table_len: usize,
         name: *const u8, name_len: usize, frame_bytes: *mut u64, padding_bytes: *mut u64) -> u64;
     fn mrecordlog_truncate(log: *mut u8, log_len: usize, write_position: *mut usize, scratch: *mut u8, scratch_len: usize,
-        names: *mut u8, names_len: usize, payloads: *mut u8, payloads_len: usize, entries: *mut u8, entries_len: usize, table: *mut u8, table_len: usize,
+        names: *mut u8, names_len: usize, payloads: *mut u8, payloads_len: usize, entries: *mut u8, entries_len: usize,
+        largest: *mut u8, largest_len: usize, table: *mut u8, table_len: usize,
         name: *const u8, name_len: usize, through: u64, evicted: *mut u64, frame_bytes: *mut u64, padding_bytes: *mut u64) -> u64;
     fn mrecordlog_append(log: *mut u8, log_len: usize, write_position: *mut usize, scratch: *mut u8, scratch_len: usize,
-        names: *mut u8, names_len: usize, payloads: *mut u8, payloads_len: usize, entries: *mut u8, entries_len: usize, table: *mut u8, table_len: usize,
+        names: *mut u8, names_len: usize, payloads: *mut u8, payloads_len: usize, entries: *mut u8, entries_len: usize,
+        largest: *mut u8, largest_len: usize, table: *mut u8, table_len: usize,
         name: *const u8, name_len: usize, named: u64, position: u64, run: *const u8, run_len: usize, lens: *const u64, lens_len: usize,
         has_last: *mut u64, last_position: *mut u64, frame_bytes: *mut u64, padding_bytes: *mut u64) -> u64;
     fn mrecordlog_range(names: *const u8, names_len: usize, payloads: *const u8, payloads_len: usize, entries: *const u8, entries_len: usize,
-        table: *const u8, table_len: usize, name: *const u8, name_len: usize, lower_kind: u64, lower: u64, upper_kind: u64, upper: u64,
+        largest: *const u8, largest_len: usize, table: *const u8, table_len: usize, name: *const u8, name_len: usize, lower_kind: u64, lower: u64, upper_kind: u64, upper: u64,
         found: *mut u64, position: *mut u64, start: *mut u64, length: *mut u64) -> u64;
     fn mrecordlog_positions(names: *const u8, names_len: usize, payloads: *const u8, payloads_len: usize, entries: *const u8, entries_len: usize,
-        table: *const u8, table_len: usize, name: *const u8, name_len: usize, start: *mut u64, next: *mut u64) -> u64;
+        largest: *const u8, largest_len: usize, table: *const u8, table_len: usize, name: *const u8, name_len: usize, start: *mut u64, next: *mut u64) -> u64;
+    fn mrecordlog_largest(names: *const u8, names_len: usize, payloads: *const u8, payloads_len: usize, entries: *const u8, entries_len: usize,
+        largest: *const u8, largest_len: usize, table: *const u8, table_len: usize, name: *const u8, name_len: usize,
+        found: *mut u64, length: *mut u64, position: *mut u64) -> u64;
     fn mrecordlog_replay(log: *const u8, log_len: usize, scratch: *mut u8, scratch_len: usize,
-        names: *mut u8, names_len: usize, payloads: *mut u8, payloads_len: usize, entries: *mut u8, entries_len: usize, table: *mut u8, table_len: usize,
+        names: *mut u8, names_len: usize, payloads: *mut u8, payloads_len: usize, entries: *mut u8, entries_len: usize,
+        largest: *mut u8, largest_len: usize, table: *mut u8, table_len: usize,
         lost: *mut u64, lost_bytes: *mut u64, resumed: *mut u64) -> u64;
     fn mrecordlog_copy(target: *mut u8, target_len: usize, scratch: *mut u8, scratch_len: usize,
-        names: *const u8, names_len: usize, payloads: *const u8, payloads_len: usize, entries: *const u8, entries_len: usize, table: *const u8, table_len: usize,
+        names: *const u8, names_len: usize, payloads: *const u8, payloads_len: usize, entries: *const u8, entries_len: usize,
+        largest: *const u8, largest_len: usize, table: *const u8, table_len: usize,
         end: *mut u64) -> u64;
     fn mrecordlog_read(log: *const u8, log_len: usize, scratch: *mut u8, scratch_len: usize, block: *mut usize, cursor: *mut usize, spoilt: *mut u64,
         kind: *mut u64, position: *mut u64, name_start: *mut u64, name_len: *mut u64, items_start: *mut u64, items_len: *mut u64) -> u64;
@@ -36,6 +45,8 @@ extern "C" {
 
 /// Bytes of the record table: 1,024 entries of 24.
 pub const ENTRIES: usize = 24_576;
+/// Bytes of the further table: 1,024 numbers of 8.
+pub const LARGEST: usize = 8_192;
 /// Bytes of the table of queues: 196 words of 8.
 pub const TABLE: usize = 1_568;
 
@@ -70,13 +81,15 @@ pub struct Memory {
     pub names: Vec<u8>,
     pub payloads: Vec<u8>,
     pub entries: Vec<u8>,
+    pub largest: Vec<u8>,
     pub table: Vec<u8>,
 }
 
 impl Memory {
     /// Memory of zeros, which holds no queues.
     pub fn new(names: usize, payloads: usize) -> Self {
-        Memory { names: vec![0; names], payloads: vec![0; payloads], entries: vec![0; ENTRIES], table: vec![0; TABLE] }
+        let (names, payloads) = (vec![0; names], vec![0; payloads]);
+        Memory { names, payloads, entries: vec![0; ENTRIES], largest: vec![0; LARGEST], table: vec![0; TABLE] }
     }
 
     /// The first record of a range: its position, and the part of the payload memory that holds its payload.
@@ -97,7 +110,7 @@ impl Memory {
         let number = unsafe {
             mrecordlog_range(
                 self.names.as_ptr(), self.names.len(), self.payloads.as_ptr(), self.payloads.len(), self.entries.as_ptr(), self.entries.len(),
-                self.table.as_ptr(), self.table.len(), name.as_ptr(), name.len(), lower_kind, lower, upper_kind, upper,
+                self.largest.as_ptr(), self.largest.len(), self.table.as_ptr(), self.table.len(), name.as_ptr(), name.len(), lower_kind, lower, upper_kind, upper,
                 &mut found, &mut position, &mut start, &mut length,
             )
         };
@@ -123,11 +136,31 @@ impl Memory {
         let number = unsafe {
             mrecordlog_positions(
                 self.names.as_ptr(), self.names.len(), self.payloads.as_ptr(), self.payloads.len(), self.entries.as_ptr(), self.entries.len(),
-                self.table.as_ptr(), self.table.len(), name.as_ptr(), name.len(), &mut start, &mut next,
+                self.largest.as_ptr(), self.largest.len(), self.table.as_ptr(), self.table.len(), name.as_ptr(), name.len(), &mut start, &mut next,
             )
         };
         refused(number, &[start, next])?;
         Ok((start, next))
+    }
+
+    /// The largest payload that a queue holds: its length and its position.
+    pub fn largest(&self, name: &[u8]) -> Result<Option<(u64, u64)>, Refused> {
+        let (mut found, mut length, mut position) = (UNSET, UNSET, UNSET);
+        // Safety: as in `range`.
+        #[rustfmt::skip]
+        let number = unsafe {
+            mrecordlog_largest(
+                self.names.as_ptr(), self.names.len(), self.payloads.as_ptr(), self.payloads.len(), self.entries.as_ptr(), self.entries.len(),
+                self.largest.as_ptr(), self.largest.len(), self.table.as_ptr(), self.table.len(), name.as_ptr(), name.len(),
+                &mut found, &mut length, &mut position,
+            )
+        };
+        refused(number, &[found, length, position])?;
+        match (found, length, position) {
+            (0, 0, 0) => Ok(None),
+            (1, _, _) => Ok(Some((length, position))),
+            _ => Err(Refused::WithValues(0)),
+        }
     }
 }
 
@@ -191,13 +224,13 @@ pub fn read_by(log: &[u8], scratch: &mut [u8], block: &mut usize, cursor: &mut u
 /// The queues of a log's records into queue memory, with corruption count, bytes lost and resume point.
 pub fn replay(log: &[u8], scratch: &mut [u8], memory: &mut Memory) -> Result<(u64, u64, u64), Refused> {
     let (mut lost, mut bytes, mut resumed) = (UNSET, UNSET, UNSET);
-    let Memory { names, payloads, entries, table } = memory;
+    let Memory { names, payloads, entries, largest, table } = memory;
     // Safety: each slice is given by its own pointer and length, and none overlaps another.
     #[rustfmt::skip]
     let number = unsafe {
         mrecordlog_replay(
             log.as_ptr(), log.len(), scratch.as_mut_ptr(), scratch.len(), names.as_mut_ptr(), names.len(), payloads.as_mut_ptr(), payloads.len(),
-            entries.as_mut_ptr(), entries.len(), table.as_mut_ptr(), table.len(), &mut lost, &mut bytes, &mut resumed,
+            entries.as_mut_ptr(), entries.len(), largest.as_mut_ptr(), largest.len(), table.as_mut_ptr(), table.len(), &mut lost, &mut bytes, &mut resumed,
         )
     };
     refused(number, &[lost, bytes, resumed])?;
@@ -207,13 +240,13 @@ pub fn replay(log: &[u8], scratch: &mut [u8], memory: &mut Memory) -> Result<(u6
 /// What the queue memory holds, copied into a target; where the last frame ends, or 0.
 pub fn copy(target: &mut [u8], scratch: &mut [u8], memory: &Memory) -> Result<u64, Refused> {
     let mut end = UNSET;
-    let Memory { names, payloads, entries, table } = memory;
+    let Memory { names, payloads, entries, largest, table } = memory;
     // Safety: each slice is given by its own pointer and length, and none overlaps another.
     #[rustfmt::skip]
     let number = unsafe {
         mrecordlog_copy(
             target.as_mut_ptr(), target.len(), scratch.as_mut_ptr(), scratch.len(), names.as_ptr(), names.len(), payloads.as_ptr(), payloads.len(),
-            entries.as_ptr(), entries.len(), table.as_ptr(), table.len(), &mut end,
+            entries.as_ptr(), entries.len(), largest.as_ptr(), largest.len(), table.as_ptr(), table.len(), &mut end,
         )
     };
     refused(number, &[end])?;
@@ -232,12 +265,12 @@ pub struct Port {
 /// Calls an entry with what every call that writes is lent, then the further arguments.
 macro_rules! lend {
     ($port:expr, $entry:ident, $name:expr $(, $more:expr)*) => {{
-        let Port { log, write_position, scratch, memory: Memory { names, payloads, entries, table } } = $port;
+        let Port { log, write_position, scratch, memory: Memory { names, payloads, entries, largest, table } } = $port;
         // Safety: each slice is given by its own pointer and length, and none overlaps another.
         unsafe {
             $entry(
                 log.as_mut_ptr(), log.len(), write_position, scratch.as_mut_ptr(), scratch.len(), names.as_mut_ptr(), names.len(),
-                payloads.as_mut_ptr(), payloads.len(), entries.as_mut_ptr(), entries.len(), table.as_mut_ptr(), table.len(),
+                payloads.as_mut_ptr(), payloads.len(), entries.as_mut_ptr(), entries.len(), largest.as_mut_ptr(), largest.len(), table.as_mut_ptr(), table.len(),
                 $name.as_ptr(), $name.len() $(, $more)*
             )
         }

@@ -5,11 +5,11 @@ from call import LENT, ASKED
 from abi_entries import P, SH, room_in, few_in, unpack_from, pack_from
 R = 'Rattle.abi_call.proofs.CallRules'
 CALL = '(callAsked request name bytes lens)'
-MEMORY = [x for x in LENT if x[0] in ('names', 'payloads', 'entries', 'table')]
+MEMORY = [x for x in LENT if x[0] in ('names', 'payloads', 'entries', 'largest', 'table')]
 as_bytes = lambda params: [(n, k, 'u8' if n == 'entries' else t) for n, k, t in params]
 of = lambda names, mark='': ' '.join(mark + n for n in names.split())
 lent = lambda how, names: '(%s %s)' % (how, names)
-ALL, MEM = 'log wp scratch names payloads entries table', 'names payloads entries table'
+ALL, MEM, FOUR = 'log wp scratch names payloads entries largest table', 'names payloads entries largest table', 'names payloads entries table'
 
 def own(n, count):
     """The first n entries of a table of `count`."""
@@ -34,7 +34,7 @@ def steps(count, n, unpack, inner, more, pack=True):
     if pack: xs.append(dict(f=pack_from, **{'with': {'bytes': 'entries', 'entries': 'records', 'table': 'table'}, 'need': '(left-bytes entries %s own-in l-records len-records)' % n, 'ends': {'entries': 'packTo l-records entries (entriesUsed (length l-records) l-table)'}}))
     return xs
 FIT = {'learn': [('records', 'fit', 'AllFit', 'hold-fits')]}
-after = lambda n: '(blanks %s) names payloads table entries l-names l-payloads l-records l-table (left-length entries %s own-in l-records len-records) (own-room entries %s own-in) fit' % (n, n, n)
+after = lambda n: '(blanks %s) names payloads largest table entries l-names l-payloads l-records l-table (left-length entries %s own-in l-records len-records) (own-room entries %s own-in) fit' % (n, n, n)
 
 USES = '''
 use mathlib.Core.List.{_++_}
@@ -51,32 +51,32 @@ use Rattle.abi_entries.proofs.Known.{AllFit, hold-fits}
 use Rattle.abi_call.specs.Brings.{brings}
 use Rattle.abi_call.proofs.Blanks.{is-blank, blanks, made, blanks-length, rest, rest-length, is-front}
 use Rattle.abi_call.proofs.Own.{own-room, own-bytes, own-fits, left-bytes, left-length, all-in, all-enough, few-held, few-enough}
-use Rattle.abi_call.proofs.Used.{used-only, question-moved, few-alike, whole-alike, behind-left, call-moved, replay-moved}
+use Rattle.abi_call.proofs.Used.{used-only, question-moved, few-alike, few-reach, whole-alike, whole-reach, behind-left, call-moved, replay-moved}
 use Rattle.abi_call.specs.OnBytes.{lentBytes, memoryBytes}
 use Rattle.abi_call.specs.Internal.{CallOn, memoryOn, ReplayOn}
 '''
 # a call that writes
 inner = F('call', LENT + ASKED, 'Called', crate='call', dash='the-call', rules=R, said='CallKept %s %s (calledNumbers r) %s' % (lent('lent', ALL), CALL, lent('lent', of(ALL, 'l-'))))
-def outer(name, requires, n, array, lets, count, enough, alike):
-    kept = 'call-moved %s %s log wp scratch %s %s (calledNumbers r) l-log l-wp l-scratch kept' % (after(n), enough, CALL, alike)
+def outer(name, requires, n, array, lets, count, enough, reach, alike):
+    kept = 'call-moved %s %s %s log wp scratch %s %s (calledNumbers r) l-log l-wp l-scratch l-largest kept' % (after(n), enough, reach, CALL, alike)
     return F(name, as_bytes(LENT) + ASKED, 'Called', crate='abi_call', requires=requires, array=array, typed=[('RecordEntry', 'Entry'), ('Called', 'Cld'), ('Request', 'Rqt')], lets=lets, uses=USES,
              said='CallOn %s %s (calledNumbers r) %s' % (lent('lentBytes', ALL), CALL, lent('lentBytes', of(ALL, 'l-'))), calls=steps(count, n, unpack_from('shr', P), inner, FIT),
              post='(record { kept = %s; behind = behind-left %s })' % (kept, after(n)))
-call = outer('call', None, '(roomIn entries)', own('(roomIn entries)', '1024'), WHOLE, room_in('shr', P), '(all-enough entries table)', '(whole-alike (blanks (roomIn entries)) names payloads table entries (blanks-length (roomIn entries)) %s)' % CALL)
-few = outer('call_few', 'Few entries table (brings %s)' % CALL, '(fewIn entries)', own('(fewIn entries)', '64'), SHORT, few_in, '(few-enough entries table (brings %s) need)' % CALL,
-            '(few-alike (blanks (fewIn entries)) names payloads table entries (own-room entries (fewIn entries) own-in) %s (few-held entries table (brings %s) need))' % (CALL, CALL))
+call = outer('call', None, '(roomIn entries)', own('(roomIn entries)', '1024'), WHOLE, room_in('shr', P), '(all-enough entries table)', '(whole-reach (blanks (roomIn entries)) names payloads largest table entries (blanks-length (roomIn entries)))', '(whole-alike (blanks (roomIn entries)) names payloads largest table entries (blanks-length (roomIn entries)) %s)' % CALL)
+few = outer('call_few', 'Few entries table (brings %s) × (roomIn entries ≤ length largest)' % CALL, '(fewIn entries)', own('(fewIn entries)', '64'), SHORT, few_in, '(few-enough entries table (brings %s) (need .0))' % CALL, '(few-reach (blanks (fewIn entries)) names payloads largest table entries (own-room entries (fewIn entries) own-in) (need .1))',
+            '(few-alike (blanks (fewIn entries)) names payloads largest table entries (own-room entries (fewIn entries) own-in) %s (few-held entries table (brings %s) (need .0)))' % (CALL, CALL))
 # replay
 LOG = [('log', 'copy', 'u8'), ('scratch', 'mut', 'u8')]
-replayed = F('replay', LOG + MEMORY, 'ReplayAnswer', crate='replay', dash='the-replay', rules=R, said='ReplayKept log scratch %s r l-scratch %s' % (lent('memory', MEM), lent('memory', of(MEM, 'l-'))))
+replayed = F('replay', LOG + MEMORY, 'ReplayAnswer', crate='replay', dash='the-replay', rules=R, said='ReplayKept log scratch %s largest r l-scratch %s l-largest' % (lent('memory', FOUR), lent('memory', of(FOUR, 'l-'))))
 replay = F('replay', LOG + as_bytes(MEMORY), 'ReplayAnswer', crate='abi_call', array=call.array, typed=[('RecordEntry', 'Entry'), ('ReplayAnswer', 'Rpa')], lets=WHOLE, uses=USES,
            said='ReplayOn log scratch %s r l-scratch %s' % (lent('memoryBytes', MEM), lent('memoryBytes', of(MEM, 'l-'))), calls=steps(room_in('shr', P), '(roomIn entries)', unpack_from('shr', P), replayed, FIT),
-           post='(record { kept = replay-moved %s (blanks-length (roomIn entries)) log scratch r l-scratch kept; behind = behind-left %s })' % (after('(roomIn entries)'), after('(roomIn entries)')))
+           post='(record { kept = replay-moved %s (blanks-length (roomIn entries)) log scratch r l-scratch l-largest kept; behind = behind-left %s })' % (after('(roomIn entries)'), after('(roomIn entries)')))
 # a question
 SHARED = [(n, 'copy', t) for n, k, t in MEMORY]
 WHAT = [('name', 'copy', 'u8'), ('what', 'plain', 'Question')]
-asked = F('question', [(n, 'shr' if n == 'entries' else k, t) for n, k, t in SHARED] + WHAT, 'QuestionAnswer', crate='question', dash='the-question', rules=R, said='QuestionKept %s name what r' % lent('memory', MEM))
+asked = F('question', [(n, 'shr' if n == 'entries' else k, t) for n, k, t in SHARED] + WHAT, 'QuestionAnswer', crate='question', dash='the-question', rules=R, said='QuestionKept %s largest name what r' % lent('memory', FOUR))
 question = F('question', as_bytes(SHARED) + WHAT, 'QuestionAnswer', crate='abi_call', array=call.array, typed=[('RecordEntry', 'Entry'), ('Question', 'Qst'), ('QuestionAnswer', 'Qsa')], lets=WHOLE, uses=USES,
-             said='QuestionKept (memoryOn %s) name what r' % lent('memoryBytes', MEM), calls=steps(room_in('copy', SH), '(roomIn entries)', unpack_from('copy', SH), asked, {}, False),
-             post='(question-moved names payloads table records (unpacked entries) (used-only (blanks (roomIn entries)) table entries (own-room entries (roomIn entries) own-in) (all-enough entries table)) name what r kept)')
+             said='QuestionKept (memoryOn %s) largest name what r' % lent('memoryBytes', MEM), calls=steps(room_in('copy', SH), '(roomIn entries)', unpack_from('copy', SH), asked, {}, False),
+             post='(question-moved names payloads table records (unpacked entries) (used-only (blanks (roomIn entries)) table entries (own-room entries (roomIn entries) own-in) (all-enough entries table)) largest (whole-reach (blanks (roomIn entries)) names payloads largest table entries (blanks-length (roomIn entries))) name what r kept)')
 FILES = [Rules('INNER', 'abi_call', 'CallRules', 'A call rule for each function that `abi_call` does on a table of entries, in the form of DoingRules. What it leaves is any that its contract allows: the walk goes on from each, with the contract\'s record in hand.', [inner, replayed, asked], USES),
          Walk('call', call), Walk('few', few), Walk('question', question), Walk('replay', replay)]

@@ -3,7 +3,7 @@ from rows import field
 from walks import F, Rules, Walk
 from loops import counted
 from mem_sweep import same, entry_at_shared
-from call_apply import arranged_shared
+from call_largest import arranged_with_shared
 R = 'Rattle.copy.proofs.CallRules'
 NAMES = ('names', 'copy', 'u8'); PAYLOADS = ('payloads', 'copy', 'u8'); ENTRIES = ('entries', 'copy', 'RecordEntry'); TABLE = ('table', 'copy', 'u64')
 TARGET = ('target', 'mut', 'u8'); SCRATCH = ('scratch', 'mut', 'u8'); SO_FAR = ('sofar', 'plain', 'Copying'); QUEUE = ('queue', 'plain', 'usize'); COUNT = ('count', 'plain', 'usize'); WRITING = ('writing', 'plain', 'bool')
@@ -28,7 +28,8 @@ USES = '''
 use lib.ListN.{length, getD, take, drop as dropped}
 use Rattle.slices.specs.Bytes.{Bytes}
 use Rattle.record.specs.Record.{touch, encode}
-use Rattle.queues.specs.Layout.{memory, arranged, blank}
+use Rattle.queues.specs.Layout.{memory, blank}
+use Rattle.largest.specs.Table.{arrangedWith}
 use Rattle.queues.specs.Changes.{wordAt}
 use Rattle.queues.specs.Passes.{passedTo}
 use Rattle.calls.specs.Calls.{scratchLeft}
@@ -77,15 +78,15 @@ of = lambda v, at, name: field('CopyPlan', v, v + '-is', at, 'usize', name)
 def passes(plan, writing, target, scratch): return '%s names payloads entries table %s %s (%s .records)' % (writing, target, scratch, plan), '(%s .queues)' % plan
 M, MQ = passes('looked', 'false', 'target', 'scratch'); N, NQ = passes('decided', 'true', 'target₂', 'scratch₁')
 def pass_(plan, call, queues, writing, need, is_, res, ends): return dict(f=copy_queues, **{'with': dict(same('names', 'payloads', 'entries', 'table', 'target', 'scratch'), queues=of(plan, 1, 'queues'), records=of(plan, 2, 'records'), writing=(writing, '')), 'need': need, 'is': is_, 'res': res, 'ends': ends})
-copy_walk = F('copy', [TARGET, SCRATCH] + FOUR, 'CopyAnswer', 'copyAnswer (decided .refusal) (written .place)', {'target': 'target₃', 'scratch': 'scratchLeft (decided .refusal) scratch₂'}, crate='copy', typed=[('Copying', 'Cpg'), ('CopyPlan', 'Cpl'), ('CopyAnswer', 'Cpa')], uses=USES,
-    told=[('payloads', 'payloads-are', 'Bytes payloads', 'bytes-told ! tt payloads')], post='(copy-kept target scratch %s payloads-are)' % MEMORY,
-    lets=[('looked', 'CopyPlan', 'lookedAt (arranged %s) target table' % MEMORY), ('measured', 'Copying', 'queuesAt %s %s' % (M, MQ)), ('target₁', 'List ℕ', 'queuesStage %s %s .log' % (M, MQ)), ('scratch₁', 'List ℕ', 'queuesStage %s %s .scratch' % (M, MQ)),
+copy_walk = F('copy', [TARGET, SCRATCH] + FOUR[:3] + [('largest', 'copy', 'u64')] + FOUR[3:], 'CopyAnswer', 'copyAnswer (decided .refusal) (written .place)', {'target': 'target₃', 'scratch': 'scratchLeft (decided .refusal) scratch₂'}, crate='copy', typed=[('Copying', 'Cpg'), ('CopyPlan', 'Cpl'), ('CopyAnswer', 'Cpa')], uses=USES,
+    told=[('payloads', 'payloads-are', 'Bytes payloads', 'bytes-told ! tt payloads')], post='(copy-kept target scratch %s largest payloads-are)' % MEMORY,
+    lets=[('looked', 'CopyPlan', 'lookedAt (arrangedWith %s largest) target table' % MEMORY), ('measured', 'Copying', 'queuesAt %s %s' % (M, MQ)), ('target₁', 'List ℕ', 'queuesStage %s %s .log' % (M, MQ)), ('scratch₁', 'List ℕ', 'queuesStage %s %s .scratch' % (M, MQ)),
           ('decided', 'CopyPlan', 'decidedFrom looked (measured .short) (measured .fits)'), ('target₂', 'List ℕ', 'targetBegun (decided .refusal) target₁'), ('written', 'Copying', 'queuesAt %s %s' % (N, NQ)), ('target₃', 'List ℕ', 'queuesStage %s %s .log' % (N, NQ)), ('scratch₂', 'List ℕ', 'queuesStage %s %s .scratch' % (N, NQ))],
-    calls=[dict(f=arranged_shared, **{'with': same('names', 'payloads', 'entries', 'table')}),
-           dict(f=look_at, **{'with': dict(same('target', 'table'), sound=('(arranged %s)' % MEMORY, '')), 'is': 'looked-is', 'res': 'looked'}),
-           pass_('looked', M, MQ, 'false', '(looked-asks target scratch %s)' % MEMORY, 'measured-is', 'measured', {'target': 'target₁', 'scratch': 'scratch₁'}),
+    calls=[dict(f=arranged_with_shared, **{'with': same('names', 'payloads', 'entries', 'table', 'largest')}),
+           dict(f=look_at, **{'with': dict(same('target', 'table'), sound=('(arrangedWith %s largest)' % MEMORY, '')), 'is': 'looked-is', 'res': 'looked'}),
+           pass_('looked', M, MQ, 'false', '(looked-asks target scratch %s largest)' % MEMORY, 'measured-is', 'measured', {'target': 'target₁', 'scratch': 'scratch₁'}),
            dict(f=begin_copy, **{'with': dict(target='target', plan=('looked', 'looked-is'), reached=('measured', 'measured-is')), 'is': 'decided-is', 'res': 'decided', 'ends': {'target': 'target₂'}}),
-           pass_('decided', N, NQ, 'true', '(decided-asks target scratch %s)' % MEMORY, 'written-is', 'written', {'target': 'target₃', 'scratch': 'scratch₂'}),
+           pass_('decided', N, NQ, 'true', '(decided-asks target scratch %s largest)' % MEMORY, 'written-is', 'written', {'target': 'target₃', 'scratch': 'scratch₂'}),
            dict(f=close_copy, **{'with': dict(scratch='scratch', plan=('decided', 'decided-is'), reached=('written', 'written-is')), 'is': 'res-is', 'res': 'copyAnswer (decided .refusal) (written .place)'})])
 FILES = [
     Rules('RULES', 'copy', 'CallRules', 'A call rule for each function that the passes of a copy, and a copy, call, in the form of EntryRules.', [copy_touch, copy_entry, copy_entries, copy_queues, look_at, begin_copy, close_copy], USES),

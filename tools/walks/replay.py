@@ -1,8 +1,9 @@
 """The descriptions of `replay::replay_one` and `replay`, and the rules of what they call. `read`, which is lent a reader, is by hand."""
-from rows import field
+from rows import field, owes
 from walks import F, Rules, Walk
 from mem_sweep import same
 from call_apply import FOUR, MEMORY, apply
+from call_largest import keep_when
 R = 'Rattle.replay.proofs.ReplayRules'
 CRC = ('crc', 'copy', 'u32'); LOG = ('log', 'copy', 'u8'); SCRATCH = ('scratch', 'mut', 'u8'); CAME = ('came', 'plain', 'Replaying')
 LISTS = ('names', 'payloads', 'entries', 'table')
@@ -28,7 +29,14 @@ use Rattle.call_effect.specs.Doing.{refusalBy}
 use Rattle.read_step.specs.Turn.{turnOf, BytesFit, afterItems, begun, tableBegun, replayAnswered, scratchClosed, tableClosed}
 use Rattle.contracts.specs.Turning.{Midway, midway, turnAt, turned, turnsLeft}
 use Rattle.contracts.proofs.ReplayKept.{inv-closes, inv-place}
-use Rattle.replay.specs.Replay.{TurnFits, firstTurn}
+use Rattle.replay.specs.Replay.{TurnFits, firstTurn, isShort, takenFrom}
+use Rattle.queues.specs.Layout.{recordsHeld}
+use Rattle.largest.specs.Table.{keptWhen}
+use Rattle.read_step.specs.declared.ReplayAnswer.the-variants.{Refused as replayRefused}
+use Rattle.contracts.specs.Contracts.{ReplayKept}
+use Rattle.contracts.specs.Turning.{QueuesReplayed}
+use Rattle.contracts.proofs.ReplayTable.{table-kept, replay-asks}
+use Rattle.replay.proofs.Short.{is-short, not-short}
 use Rattle.replay.proofs.Turns.{Stands, begins, goes-on, turn-fits, turn-falls}
 use Rattle.replay.proofs.OwnTable.{zeros, made, is-made, zeros-long, table-ready, filled-long, room-crc}
 use Rattle.call_apply.proofs.ByteSlices.{bytes-told}
@@ -43,7 +51,7 @@ replay_one_walk = F('replay_one', [CRC, LOG, SCRATCH] + FOUR('mut') + [CAME], 'R
            dict(f=after_items, **{'with': dict(refused=('(refusalBy end-scratch (took .doing) %s)' % MEMORY, 'refused-is'), came=of(0, 'Replaying', 'at', True)), 'is': 'res-is', 'res': ONE + ' .at'})])
 TOLD = [('log', 'typed', 'Bytes log', 'bytes-told ! tt log')]
 START = '(firstTurn log scratch m, (begins log scratch m typed len-begin-table, begun-is))'; ALL = ('scratch',) + LISTS; LONG = {x: 'i .1 .0 .long .' + x for x in ALL}
-replay = F('replay', [LOG, SCRATCH] + FOUR('mut'), 'ReplayAnswer', 'replayAnswered (i .0 .at)', dict(comes('i .0'), scratch='scratchClosed (i .0 .at .refusal) (i .0 .scratch)', table='tableClosed (i .0 .at .refusal) (i .0 .memory .table)'), crate='replay', path='replaying.replay',
+replay_queues = F('replay_queues', [LOG, SCRATCH] + FOUR('mut'), 'ReplayAnswer', 'replayAnswered (i .0 .at)', dict(comes('i .0'), scratch='scratchClosed (i .0 .at .refusal) (i .0 .scratch)', table='tableClosed (i .0 .at .refusal) (i .0 .memory .table)'), crate='replay', path='replaying.replay_queues',
     typed=[('Replaying', 'Rpl'), ('ReplayAnswer', 'Rpa')], told=TOLD, uses=USES, lets=[('m', 'Lists', MEMORY[1:-1])], post='(inv-closes log scratch m (i .0) (i .1 .0 .kept) (fails (i .0 .at .going) over))',
     array=dict(name='crc', row='u32', count='4096', of='zeros', made='made', **{'is': 'is-made', 'len': 'zeros-long'}),
     calls=[dict(f=fill_table, **{'with': same('crc'), 'ends': {'crc': 'filled zeros'}}),
@@ -63,5 +71,24 @@ replay = F('replay', [LOG, SCRATCH] + FOUR('mut'), 'ReplayAnswer', 'replayAnswer
   falls-at : (i : Where) → Holds (i .0 .at .going) → turnsLeft log (turned log (i .0) .at) < turnsLeft log (i .0 .at)
   falls-at i more = turn-falls log scratch m (i .1 .0 .typed) (i .0) (i .1 .0 .kept) (goes i more)
 '''))
+
+# ---- with the further table
+W = 'Rattle.replay.proofs.WholeRules'; L_MEMORY = MEMORY.replace(' ', ' l-').replace('(memory l-', '(memory l-')
+is_short = F('is_short', [LOG, ('records', 'plain', 'usize'), ('numbers', 'plain', 'usize')], 'bool', 'isShort log records numbers', crate='replay', path='replaying.is_short', rules=W)
+taken = F('taken', [LOG], 'usize', 'takenFrom log', crate='replay', path='replaying.taken', rules=W)
+queues_replayed = F('replay_queues', [LOG, SCRATCH] + FOUR('mut'), 'ReplayAnswer', crate='replay', path='replaying.replay_queues', dash='replay-queues', rules=W, said='QueuesReplayed log scratch %s r l-scratch %s' % (MEMORY, L_MEMORY))
+SIX = 'replayRefused 6'; LENT = FOUR('mut')[:3] + [('largest', 'mut', 'u64')] + FOUR('mut')[3:]; OVER = '(not-short log %s largest (fails (isShort log (length entries) (length largest)) over))' % MEMORY
+replay = F('replay', [LOG, SCRATCH] + LENT, 'ReplayAnswer', crate='replay', path='replaying.replay', typed=[('ReplayAnswer', 'Rpa')], uses=USES, literals=['(typed-Rpa (%s) six-is)' % SIX],
+    said='ReplayKept log scratch %s largest r l-scratch %s l-largest' % (MEMORY, L_MEMORY), lemmas='''
+  six-is : IsReplayAnswer (%s)
+  six-is = %s
+''' % (SIX, owes('ReplayAnswer', '(%s)' % SIX, '((refl, lit< tt), tt)')),
+    guards=[dict(test='isShort log (length entries) (length largest)', yes='short', no='over', res=SIX, res_is='six-is', post='(is-short log %s largest scratch (holds (isShort log (length entries) (length largest)) short))' % MEMORY)],
+    post='(table-kept log %s largest %s scratch l-scratch %s r kept)' % (MEMORY, OVER, L_MEMORY),
+    calls=[dict(f=is_short, **{'with': dict(log='log', records=('(length entries)', '(room-entries .0)'), numbers=('(length largest)', '(room-largest .0)'))}),
+           dict(f=queues_replayed, **{'with': same('log', 'scratch', *LISTS), 'is': 'r-is', 'res': 'r'}),
+           dict(f=taken, **{'with': same('log'), 'is': 'taken-is', 'res': 'takenFrom log'}),
+           dict(f=keep_when, **{'with': dict(same('entries', 'table', 'largest'), much=('(takenFrom log)', 'taken-is')), 'need': '(replay-asks log %s largest %s scratch l-scratch %s r kept)' % (MEMORY, OVER, L_MEMORY), 'ends': {'largest': 'keptWhen (takenFrom log) largest l-entries (recordsHeld l-table)'}})])
 FILES = [Rules('RULES', 'replay', 'ReplayRules', 'A call rule for each function that a walk of replay calls, in the form of DoingRules.', [read_turn, after_items, begin, replay_one, close_replay, fill_table], USES),
-         Walk('replay_one_walk', replay_one_walk), Walk('replay', replay)]
+         Rules('WHOLE', 'replay', 'WholeRules', 'A call rule for each function that replay with the further table calls, in the form of DoingRules. What replay without it leaves is any that its contract allows.', [is_short, queues_replayed, taken], USES),
+         Walk('replay_one_walk', replay_one_walk), Walk('replay_queues', replay_queues), Walk('replay', replay)]

@@ -3,7 +3,7 @@ from walks import F, Rules
 from call_apply import MEMORY
 from call import NAME
 R = 'Rattle.test_range.proofs.PartRules'
-ranging = F('range', [('names', 'copy', 'u8'), ('payloads', 'copy', 'u8'), ('entries', 'shr', 'RecordEntry'), ('table', 'copy', 'u64')] + [NAME, ('lower', 'plain', 'Lower'), ('upper', 'plain', 'Upper'), ('answer', 'ref', 'QuestionAnswer')], 'part', crate='question', rules=R, said='FoundKept %s name lower upper l-answer (r .now)' % MEMORY)
+ranging = F('range', [('names', 'copy', 'u8'), ('payloads', 'copy', 'u8'), ('entries', 'shr', 'RecordEntry'), ('largest', 'copy', 'u64'), ('table', 'copy', 'u64')] + [NAME, ('lower', 'plain', 'Lower'), ('upper', 'plain', 'Upper'), ('answer', 'ref', 'QuestionAnswer')], 'part', crate='question', rules=R, said='FoundKept %s largest name lower upper l-answer (r .now)' % MEMORY)
 tell = F('tell', [('part', 'copy', 'u8'), ('answer', 'plain', 'QuestionAnswer')], crate='test_range', rules=R, silent=True)
 USES = '''
 use lib.ListN.{length}

@@ -10,7 +10,9 @@ use Rattle.queues.specs.declared.Lower.the-variants.{After as afterPosition}
 use Rattle.queues.specs.declared.Upper.{Upper}
 use Rattle.queues.specs.Queues.{Queue, Found, held, find, rising}
 use Rattle.queues.specs.Ranges.{allInRange, FirstItem, noItem, firstItem, firstOf, rangeOf}
-use Rattle.queues.specs.Layout.{Memory, meaning, arranged}
+use Rattle.queues.specs.Layout.{Memory, meaning}
+use Rattle.largest.specs.Table.{arrangedWith}
+use Rattle.contracts.proofs.Left.{with-arranged}
 use Rattle.queues.proofs.Both.{never}
 use Rattle.queues.proofs.ArrangedFacts.{arranged-arrangement}
 use Rattle.queues.proofs.Ordered.{in-order-found}
@@ -28,39 +30,39 @@ use Rattle.claims.specs.Claims.{AskedAgain, AskedThrough}
 -- ---- one question
 
 -- the queue of a question that is not refused, its records in rising position
-record OfQueue (m : Memory) (n : List ℕ) : Type 0 where
-  passed : questionRefusal (arranged m) (meaning m) n ≡ 0
+record OfQueue (m : Memory) (ks n : List ℕ) : Type 0 where
+  passed : questionRefusal (arrangedWith m ks) (meaning m) n ≡ 0
   queue : Queue
   is-held : find n (meaning m) ≡ held queue
   rises : rising (queue .start) (queue .records) ≡ true
 
-of-queue : (m : Memory) (n : List ℕ) → questionRefusal (arranged m) (meaning m) n ≡ 0 → OfQueue m n
-of-queue m n e =
-    let w = question-passed (arranged m) (meaning m) n e in
+of-queue : (m : Memory) (ks n : List ℕ) → questionRefusal (arrangedWith m ks) (meaning m) n ≡ 0 → OfQueue m ks n
+of-queue m ks n e =
+    let w = question-passed (arrangedWith m ks) (meaning m) n e in
     record {
       passed = e;
       queue = w .named .queue;
       is-held = w .named .is-held;
-      rises = in-order-found (meaning m) (arranged-arrangement m (w .is-arranged) .ordered) n (w .named .queue) (w .named .is-held) .rises;
+      rises = in-order-found (meaning m) (arranged-arrangement m (with-arranged m ks (w .is-arranged)) .ordered) n (w .named .queue) (w .named .is-held) .rises;
     }
 
 abbrev gave : FirstItem → RangeAnswer
 gave f = record { refusal = 0; found = f }
 
 -- what any question of it is answered
-range-given : (m : Memory) (n : List ℕ) (lo : Lower) (hi : Upper) (a : QuestionAnswer) (q : OfQueue m n) → RangeKept m n lo hi a
+range-given : (m : Memory) (ks n : List ℕ) (lo : Lower) (hi : Upper) (a : QuestionAnswer) (q : OfQueue m ks n) → RangeKept m ks n lo hi a
     → rangeNumbers (m .payloads) a ≡ gave (rangeOf lo hi (q .queue .records))
 unfolding rangeAnswer rangeBy
-range-given m n lo hi a q w = w .answer ∙ ap₂ (λ (i : ℕ) (g : Found). rangeBy i g lo hi) (q .passed) (q .is-held)
+range-given m ks n lo hi a q w = w .answer ∙ ap₂ (λ (i : ℕ) (g : Found). rangeBy i g lo hi) (q .passed) (q .is-held)
 
-module _ (m : Memory) (n : List ℕ) (lo : Lower) (hi : Upper) (f : FirstItem) (w : RangeGave m n lo hi f) where
-  gave-of : OfQueue m n
+module _ (m : Memory) (ks n : List ℕ) (lo : Lower) (hi : Upper) (f : FirstItem) (w : RangeGave m ks n lo hi f) where
+  gave-of : OfQueue m ks n
   gave-of =
-      of-queue m n (sym (range-refusal (arranged m) (meaning m) n lo hi) ∙ ap (λ (x : RangeAnswer). x .refusal) (sym (w .kept .answer) ∙ w .given))
+      of-queue m ks n (sym (range-refusal (arrangedWith m ks) (meaning m) n lo hi) ∙ ap (λ (x : RangeAnswer). x .refusal) (sym (w .kept .answer) ∙ w .given))
 
-  first-given : (q : OfQueue m n) → firstOf (allInRange lo hi (q .queue .records)) ≡ f
+  first-given : (q : OfQueue m ks n) → firstOf (allInRange lo hi (q .queue .records)) ≡ f
   unfolding rangeOf
-  first-given q = ap (λ (x : RangeAnswer). x .found) (sym (range-given m n lo hi (w .answer) q (w .kept)) ∙ w .given)
+  first-given q = ap (λ (x : RangeAnswer). x .found) (sym (range-given m ks n lo hi (w .answer) q (w .kept)) ∙ w .given)
 
 -- ---- the first of a list
 
@@ -80,9 +82,9 @@ nothing (x ∷ xs) e = never (cc)
 
 -- ---- asking again
 
-module _ (m : Memory) (n : List ℕ) (lo : Lower) (hi : Upper) (i : Item) (w : RangeGave m n lo hi (firstItem i)) (q : OfQueue m n) where
+module _ (m : Memory) (ks n : List ℕ) (lo : Lower) (hi : Upper) (i : Item) (w : RangeGave m ks n lo hi (firstItem i)) (q : OfQueue m ks n) where
   range-begins : Begins i (allInRange lo hi (q .queue .records))
-  range-begins = begins i (allInRange lo hi (q .queue .records)) (first-given m n lo hi (firstItem i) w q)
+  range-begins = begins i (allInRange lo hi (q .queue .records)) (first-given m ks n lo hi (firstItem i) w q)
 
   -- the range after i is the rest of the range
   range-again : allInRange (afterPosition (i .position)) hi (q .queue .records) ≡ range-begins .later
@@ -90,30 +92,30 @@ module _ (m : Memory) (n : List ℕ) (lo : Lower) (hi : Upper) (i : Item) (w : R
 
 pub asked-again : AskedAgain
 unfolding rangeOf
-asked-again m n lo hi i a w k =
-    let q : OfQueue m n = gave-of m n lo hi (firstItem i) w in
+asked-again m ks n lo hi i a w k =
+    let q : OfQueue m ks n = gave-of m ks n lo hi (firstItem i) w in
     record {
       queue = q .queue;
       is-held = q .is-held;
-      later = range-begins m n lo hi i w q .later;
-      range = range-begins m n lo hi i w q .parts;
+      later = range-begins m ks n lo hi i w q .later;
+      range = range-begins m ks n lo hi i w q .parts;
       next =
-          range-given m n (afterPosition (i .position)) hi a q k
-          ∙ ap (λ (xs : List Item). gave (firstOf xs)) (range-again m n lo hi i w q);
+          range-given m ks n (afterPosition (i .position)) hi a q k
+          ∙ ap (λ (xs : List Item). gave (firstOf xs)) (range-again m ks n lo hi i w q);
     }
 
 -- ---- to the last
 
-through : (m : Memory) (n : List ℕ) (lo : Lower) (hi : Upper) (is : List Item) (q : OfQueue m n) → Asks m n hi lo is → is ≡ allInRange lo hi (q .queue .records)
-through m n lo hi _ q (last w) = sym (nothing (allInRange lo hi (q .queue .records)) (first-given m n lo hi noItem w q))
-through m n lo hi _ q (more {is} i w rest) =
-    ap (λ (xs : List Item). i ∷ xs) (through m n (afterPosition (i .position)) hi is q rest ∙ range-again m n lo hi i w q) ∙ sym (range-begins m n lo hi i w q .parts)
+through : (m : Memory) (ks n : List ℕ) (lo : Lower) (hi : Upper) (is : List Item) (q : OfQueue m ks n) → Asks m ks n hi lo is → is ≡ allInRange lo hi (q .queue .records)
+through m ks n lo hi _ q (last w) = sym (nothing (allInRange lo hi (q .queue .records)) (first-given m ks n lo hi noItem w q))
+through m ks n lo hi _ q (more {is} i w rest) =
+    ap (λ (xs : List Item). i ∷ xs) (through m ks n (afterPosition (i .position)) hi is q rest ∙ range-again m ks n lo hi i w q) ∙ sym (range-begins m ks n lo hi i w q .parts)
 
-asked-of : (m : Memory) (n : List ℕ) (lo : Lower) (hi : Upper) (is : List Item) → Asks m n hi lo is → OfQueue m n
-asked-of m n lo hi _ (last w) = gave-of m n lo hi noItem w
-asked-of m n lo hi _ (more i w rest) = gave-of m n lo hi (firstItem i) w
+asked-of : (m : Memory) (ks n : List ℕ) (lo : Lower) (hi : Upper) (is : List Item) → Asks m ks n hi lo is → OfQueue m ks n
+asked-of m ks n lo hi _ (last w) = gave-of m ks n lo hi noItem w
+asked-of m ks n lo hi _ (more i w rest) = gave-of m ks n lo hi (firstItem i) w
 
 pub asked-through : AskedThrough
-asked-through m n lo hi is w =
-    let q : OfQueue m n = asked-of m n lo hi is w in
-    record { queue = q .queue; is-held = q .is-held; all = through m n lo hi is q w }
+asked-through m ks n lo hi is w =
+    let q : OfQueue m ks n = asked-of m ks n lo hi is w in
+    record { queue = q .queue; is-held = q .is-held; all = through m ks n lo hi is q w }

@@ -33,7 +33,9 @@ use Rattle.contracts.specs.Contracts.{Lent, stateOf, ReplayKept, replayAnswerBy
 use Rattle.contracts.specs.Run.{Run}
 use Rattle.contracts.proofs.Runs.{run-means}
 use Rattle.contracts.proofs.Readings.{reads-all}
-use Rattle.contracts.proofs.Demands.{answers}
+use Rattle.contracts.specs.Turning.{QueuesReplayed}
+use Rattle.contracts.proofs.ReplayTable.{queues-kept, replayed-long}
+use Rattle.contracts.proofs.Demands.{answers, run-long}
 use Rattle.claims.specs.Claims.{NothingLost, RoundTripNothingLost, CountsOne, OneHitCounted, ReplayLostWithin, CallsLoseNothing, LosesBytes, HitCosts, StruckWithin}
 
 -- ---- a log that nobody changed
@@ -55,7 +57,7 @@ none-lost h s r =
     ∙ records-lose (recordsOf (machine h .records))
 
 module _ (h : List Fed) (l : Lent) (r : Run h l) (scratch scratch′ : List ℕ) (m m′ : Memory) (a : ReplayAnswer)
-    (e : length scratch ≡ length (l .scratch)) (f : capacities m ≡ capacities (l .memory)) (w : ReplayKept (l .log) scratch m a scratch′ m′) where
+    (e : length scratch ≡ length (l .scratch)) (f : capacities m ≡ capacities (l .memory)) (w : QueuesReplayed (l .log) scratch m a scratch′ m′) where
   given-back : replayOf (l .log) (capacities m) (length scratch) ≡ left (meaning (l .memory))
   unfolding stateOf
   given-back =
@@ -87,7 +89,8 @@ module _ (h : List Fed) (l : Lent) (r : Run h l) (scratch scratch′ : List ℕ)
       }
 
 pub round-trip-nothing-lost : RoundTripNothingLost
-round-trip-nothing-lost h l r scratch scratch′ m m′ a e f w = nothing-lost h l r scratch scratch′ m m′ a e f w
+round-trip-nothing-lost h l r scratch scratch′ m m′ ks ks′ a e f g w =
+    nothing-lost h l r scratch scratch′ m m′ a e f (queues-kept (l .log) m ks (λ _. run-long h l r m ks f g) scratch scratch′ m′ a ks′ w)
 
 -- ---- one hit frame
 
@@ -97,18 +100,19 @@ unfolding replayedBy replayAnswer replayAnswerBy
 told-lost (refused n) lost lost′ bytes bytes′ p p′ e = never (cc)
 told-lost (left qs) lost lost′ bytes bytes′ p p′ e = (cc, cc)
 
-module _ (log scratch scratch′ : List ℕ) (m m′ : Memory) (lost bytes resumed : ℕ) (w : ReplayKept log scratch m (replayed lost bytes resumed) scratch′ m′) where
+module _ (log scratch scratch′ : List ℕ) (m m′ : Memory) (ks ks′ : List ℕ) (lost bytes resumed : ℕ) (w : ReplayKept log scratch m ks (replayed lost bytes resumed) scratch′ m′ ks′) where
   told : (lost ≡ lostIn (readings log (length scratch))) × (bytes ≡ lostBytes log (length scratch))
   told =
       told-lost (replayOf log (capacities m) (length scratch)) lost (lostIn (readings log (length scratch))) bytes (lostBytes log (length scratch)) resumed (resume log (length scratch))
-      (answers log scratch scratch′ m m′ (replayed lost bytes resumed) w (replayOf log (capacities m) (length scratch)) refl)
+      (answers log scratch scratch′ m m′ (replayed lost bytes resumed)
+      (queues-kept log m ks (λ _. replayed-long log scratch scratch′ m m′ ks ks′ lost bytes resumed w) scratch scratch′ m′ (replayed lost bytes resumed) ks′ w) (replayOf log (capacities m) (length scratch)) refl)
 
 counts-one : (hit : List ℕ) (limit : ℕ) → lostIn (readings hit limit) ≡ 1 → CountsOne hit limit
 counts-one hit limit e =
     record {
       reading = λ scratch gs n rs. ap lostIn (reads-all hit scratch gs rs) ∙ ap (λ (i : ℕ). lostIn (readings hit i)) n ∙ e;
-      replay = λ scratch scratch′ m m′ lost bytes resumed n w.
-          told hit scratch scratch′ m m′ lost bytes resumed w .0 ∙ ap (λ (i : ℕ). lostIn (readings hit i)) n ∙ e;
+      replay = λ scratch scratch′ m m′ ks ks′ lost bytes resumed n w.
+          told hit scratch scratch′ m m′ ks ks′ lost bytes resumed w .0 ∙ ap (λ (i : ℕ). lostIn (readings hit i)) n ∙ e;
     }
 
 pub one-hit-counted : OneHitCounted
@@ -119,8 +123,8 @@ one-hit-counted h l r before after owner earlier later f hit limit e hf hh hl =
 -- ---- the bytes lost
 
 pub replay-lost-within : ReplayLostWithin
-replay-lost-within log scratch scratch′ m m′ lost bytes resumed w =
-    subst (λ (n : ℕ). n ≤ blocks log * 32768) (sym (told log scratch scratch′ m m′ lost bytes resumed w .1)) (lost-within log (length scratch))
+replay-lost-within log scratch scratch′ m m′ ks ks′ lost bytes resumed w =
+    subst (λ (n : ℕ). n ≤ blocks log * 32768) (sym (told log scratch scratch′ m m′ ks ks′ lost bytes resumed w .1)) (lost-within log (length scratch))
 
 pub calls-lose-nothing : CallsLoseNothing
 unfolding stateOf
@@ -130,7 +134,7 @@ loses : (hit : List ℕ) (limit n : ℕ) → lostBytes hit limit ≡ n → Loses
 loses hit limit n e =
     record {
       reading = e;
-      replay = λ scratch scratch′ m m′ lost bytes resumed q w. told hit scratch scratch′ m m′ lost bytes resumed w .1 ∙ ap (lostBytes hit) q ∙ e;
+      replay = λ scratch scratch′ m m′ ks ks′ lost bytes resumed q w. told hit scratch scratch′ m m′ ks ks′ lost bytes resumed w .1 ∙ ap (lostBytes hit) q ∙ e;
     }
 
 pub hit-costs : HitCosts

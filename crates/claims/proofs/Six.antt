@@ -11,7 +11,8 @@ use borrow.Author.Tests.{le-ltb}
 use Rattle.frame.specs.Block.{blocks}
 use Rattle.recordlog.specs.Read.{resume}
 use Rattle.queues.specs.Queues.{Queue, Found, missing, held, find}
-use Rattle.queues.specs.Layout.{Memory, meaning, arranged, capacities}
+use Rattle.queues.specs.Layout.{Memory, meaning, capacities}
+use Rattle.largest.specs.Table.{arrangedWith}
 use Rattle.queues.specs.declared.Lower.{Lower}
 use Rattle.queues.specs.declared.Upper.{Upper}
 use Rattle.calls.specs.State.{State, Call, createCall, deleteCall, truncateCall, appendCall, CallAnswer, Returned}
@@ -30,14 +31,15 @@ use Rattle.calls.proofs.Done.{call-refused, call-done}
 use Rattle.calls.proofs.Steps.{done-zero}
 use Rattle.calls.proofs.AnyLog.{resumes-in-log}
 use Rattle.call_write.specs.declared.Question.{Question}
-use Rattle.call_write.specs.declared.Question.the-variants.{Positions, Range}
+use Rattle.call_write.specs.declared.Question.the-variants.{Positions, Range, Largest}
 use Rattle.call_write.specs.declared.QuestionAnswer.{QuestionAnswer}
 use Rattle.call_write.specs.declared.QuestionAnswer.the-variants.{Refused as questionRefused}
-use Rattle.contracts.specs.Numbers.{rangeNumbers, positionsNumbers, ReplayNumbers, replayNumbers}
+use Rattle.contracts.specs.Numbers.{rangeNumbers, positionsNumbers, LargestNumbers, largestNumbers, ReplayNumbers, replayNumbers}
 use Rattle.read_step.specs.declared.ReplayAnswer.{ReplayAnswer}
-use Rattle.contracts.specs.Contracts.{Lent, stateOf, CallKept, QuestionKept, ReplayKept, numbersBy, replayMeant}
+use Rattle.contracts.specs.Contracts.{Lent, stateOf, CallKept, largestBy, largestAnswer, QuestionKept, numbersBy, replayMeant}
+use Rattle.contracts.specs.Turning.{QueuesReplayed}
+use Rattle.contracts.proofs.ReplayTable.{queues-kept, replay-arranged}
 use Rattle.contracts.proofs.Runs.{call-means}
-use Rattle.contracts.proofs.Demands.{leaves}
 use Rattle.claims.specs.Claims.{NeverMeetsSix, CallLeavesArranged, CallWasArranged, ReplayLeavesArranged}
 use Rattle.claims.proofs.LogLeft.{call-leaves, left-arranged}
 
@@ -108,14 +110,26 @@ positions-refusal b qs n = go (questionRefusal b qs n) (find n qs)
     go zero (held q) = refl
     go (suc i) f = refl
 
-question-refusal : (m : Memory) (n : List ℕ) (q : Question) (a : QuestionAnswer) → QuestionKept m n q a → a ≡ questionRefused 6
-    → questionRefusal (arranged m) (meaning m) n ≡ 6
-unfolding rangeNumbers positionsNumbers
-question-refusal m n Positions a w e =
-    sym (positions-refusal (arranged m) (meaning m) n) ∙ sym (ap (λ (x : PositionsNumbers). x .refusal) (w .answer))
+largest-refusal : (b : Bool) (qs : List Queue) (n : List ℕ) → largestAnswer b qs n .refusal ≡ questionRefusal b qs n
+unfolding largestAnswer largestBy
+largest-refusal b qs n = go (questionRefusal b qs n) (find n qs)
+  where
+    go : (i : ℕ) (f : Found) → largestBy i f .refusal ≡ i
+    go zero missing = refl
+    go zero (held q) = refl
+    go (suc i) f = refl
+
+question-refusal : (m : Memory) (ks n : List ℕ) (q : Question) (a : QuestionAnswer) → QuestionKept m ks n q a → a ≡ questionRefused 6
+    → questionRefusal (arrangedWith m ks) (meaning m) n ≡ 6
+unfolding rangeNumbers positionsNumbers largestNumbers
+question-refusal m ks n Largest a w e =
+    sym (largest-refusal (arrangedWith m ks) (meaning m) n) ∙ sym (ap (λ (x : LargestNumbers). x .refusal) (w .answer))
+    ∙ ap (λ (x : QuestionAnswer). largestNumbers x .refusal) e
+question-refusal m ks n Positions a w e =
+    sym (positions-refusal (arrangedWith m ks) (meaning m) n) ∙ sym (ap (λ (x : PositionsNumbers). x .refusal) (w .answer))
     ∙ ap (λ (x : QuestionAnswer). positionsNumbers x .refusal) e
-question-refusal m n (Range lo hi) a w e =
-    sym (range-refusal (arranged m) (meaning m) n lo hi) ∙ sym (ap (λ (x : RangeNumbers). x .refusal) (w .answer))
+question-refusal m ks n (Range lo hi) a w e =
+    sym (range-refusal (arrangedWith m ks) (meaning m) n lo hi) ∙ sym (ap (λ (x : RangeNumbers). x .refusal) (w .answer))
     ∙ ap (λ (x : QuestionAnswer). rangeNumbers (m .payloads) x .refusal) e
 
 -- ---- what is lent and does not meet 6
@@ -128,8 +142,8 @@ never-meets l e =
       calls = λ k a l′ w z.
           not-given (refusalsOf (stateOf l) k) (lowest-first .calls (stateOf l) k) (call-six (stateOf l) k ∙ e) (sym (call-refusal l l′ k a w) ∙ z);
       questions = λ n q a w z.
-          not-given (questionRefusals (arranged (l .memory)) (meaning (l .memory)) n) (lowest-first .questions (arranged (l .memory)) (meaning (l .memory)) n)
-          (question-six (arranged (l .memory)) (meaning (l .memory)) n ∙ ap not (state-taken (stateOf l) e .arranged)) (question-refusal (l .memory) n q a w z);
+          not-given (questionRefusals (arrangedWith (l .memory) (l .largest)) (meaning (l .memory)) n) (lowest-first .questions (arrangedWith (l .memory) (l .largest)) (meaning (l .memory)) n)
+          (question-six (arrangedWith (l .memory) (l .largest)) (meaning (l .memory)) n ∙ ap not (state-taken (stateOf l) e .arranged)) (question-refusal (l .memory) (l .largest) n q a w z);
     }
 
 pub call-leaves-arranged : CallLeavesArranged
@@ -149,7 +163,7 @@ unfolding replayMeant replayedBy numbersBy
 meant-resumed (refused i) lost bytes p n h = omega arith
 meant-resumed (left qs) lost bytes p n h = h
 
-resumed-inside : (log scratch scratch′ : List ℕ) (m m′ : Memory) (a : ReplayAnswer) → logRefused log ≡ false → ReplayKept log scratch m a scratch′ m′
+resumed-inside : (log scratch scratch′ : List ℕ) (m m′ : Memory) (a : ReplayAnswer) → logRefused log ≡ false → QueuesReplayed log scratch m a scratch′ m′
     → replayNumbers a .resumed ≤ blocks log * 32768
 unfolding replayCall
 resumed-inside log scratch scratch′ m m′ a e w =
@@ -159,7 +173,8 @@ resumed-inside log scratch scratch′ m m′ a e w =
 
 pub replay-leaves-arranged : ReplayLeavesArranged
 unfolding stateOf stateNotArranged
-replay-leaves-arranged log scratch scratch′ m m′ a e w s =
-    never-meets (record { log = log; place = replayNumbers a .resumed; scratch = s; memory = m′ })
-    (ap₂ (λ (x y : Bool). not x || y) (leaves log scratch scratch′ m m′ a w e (replayOf log (capacities m) (length scratch)) refl .still-arranged)
-    (le-ltb (blocks log * 32768) (replayNumbers a .resumed) (resumed-inside log scratch scratch′ m m′ a e w)))
+replay-leaves-arranged log scratch scratch′ m m′ ks ks′ a e long w s =
+    never-meets (record { log = log; place = replayNumbers a .resumed; scratch = s; memory = m′; largest = ks′ })
+    (ap₂ (λ (x y : Bool). not x || y) (replay-arranged log scratch scratch′ m m′ ks ks′ a e long w)
+    (le-ltb (blocks log * 32768) (replayNumbers a .resumed)
+    (resumed-inside log scratch scratch′ m m′ a e (queues-kept log m ks (λ _. long) scratch scratch′ m′ a ks′ w))))

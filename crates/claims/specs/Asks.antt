@@ -15,12 +15,12 @@ use Rattle.contracts.specs.Numbers.{rangeNumbers}
 use Rattle.contracts.specs.Contracts.{RangeKept}
 
 -- a range question of the queue n was answered, not refused, by this record or by none
-pub record RangeGave (m : Memory) (n : List ℕ) (lo : Lower) (hi : Upper) (f : FirstItem) : Type 0 where
+pub record RangeGave (m : Memory) (ks n : List ℕ) (lo : Lower) (hi : Upper) (f : FirstItem) : Type 0 where
   pub answer : QuestionAnswer
-  pub kept : RangeKept m n lo hi answer
+  pub kept : RangeKept m ks n lo hi answer
   pub given : rangeNumbers (m .payloads) answer ≡ record { refusal = 0; found = f }
 
 -- "asking again with "after" that position": the records given from a lower bound on, up to the first question that gives none
-pub data Asks (m : Memory) (n : List ℕ) (hi : Upper) : Lower → List Item → Type 0 where
-  last : {lo : Lower} → RangeGave m n lo hi noItem → Asks m n hi lo []
-  more : {lo : Lower} {is : List Item} (i : Item) → RangeGave m n lo hi (firstItem i) → Asks m n hi (afterPosition (i .position)) is → Asks m n hi lo (i ∷ is)
+pub data Asks (m : Memory) (ks n : List ℕ) (hi : Upper) : Lower → List Item → Type 0 where
+  last : {lo : Lower} → RangeGave m ks n lo hi noItem → Asks m ks n hi lo []
+  more : {lo : Lower} {is : List Item} (i : Item) → RangeGave m ks n lo hi (firstItem i) → Asks m ks n hi (afterPosition (i .position)) is → Asks m ks n hi lo (i ∷ is)

@@ -48,7 +48,7 @@ use Rattle.claims.specs.Asks.{RangeGave, Asks}
 pub record NeverMeetsSix (l : Lent) : Type 0 where
   pub arranged : stateNotArranged (stateOf l) ≡ false
   pub calls : (k : Call) (a : CallAnswer) (l′ : Lent) → CallKept l k a l′ → a .refusal ≡ 6 → ⊥
-  pub questions : (n : List ℕ) (q : Question) (a : QuestionAnswer) → QuestionKept (l .memory) n q a → a ≡ questionRefused 6 → ⊥
+  pub questions : (n : List ℕ) (q : Question) (a : QuestionAnswer) → QuestionKept (l .memory) (l .largest) n q a → a ≡ questionRefused 6 → ⊥
 
 -- what a call left, whatever arranged memory it was lent; and so what any list of calls left, each lent what the one before left
 abbrev pub CallLeavesArranged : Type 0
@@ -58,11 +58,11 @@ CallLeavesArranged = (l l′ : Lent) (k : Call) (a : CallAnswer) → CallKept l 
 abbrev pub CallWasArranged : Type 0
 CallWasArranged = (l l′ : Lent) (k : Call) (a : CallAnswer) → CallKept l k a l′ → (a .refusal ≡ 0) ⊎ (6 < a .refusal) → stateNotArranged (stateOf l) ≡ false
 
--- What open left, whatever memory it was lent, of every log that is not refused 1, damaged ones too; the writer stands at the place that replay answered, which is 0
+-- What open left, whatever memory it was lent, with a further table that is long enough, of every log that is not refused 1, damaged ones too; the writer stands at the place that replay answered, which is 0
 -- where it was refused, and any scratch is lent.
 abbrev pub ReplayLeavesArranged : Type 0
-ReplayLeavesArranged = (log scratch scratch′ : List ℕ) (m m′ : Memory) (a : ReplayAnswer) → logRefused log ≡ false → ReplayKept log scratch m a scratch′ m′
-    → (s : List ℕ) → NeverMeetsSix (record { log = log; place = replayNumbers a .resumed; scratch = s; memory = m′ })
+ReplayLeavesArranged = (log scratch scratch′ : List ℕ) (m m′ : Memory) (ks ks′ : List ℕ) (a : ReplayAnswer) → logRefused log ≡ false → length (m .entries) ≤ length ks
+    → ReplayKept log scratch m ks a scratch′ m′ ks′ → (s : List ℕ) → NeverMeetsSix (record { log = log; place = replayNumbers a .resumed; scratch = s; memory = m′; largest = ks′ })
 
 -- a reader that does not meet 6: no read answers it, whatever scratch is lent
 pub record ReaderNeverMeetsSix (log : List ℕ) (r : Reader) : Type 0 where
@@ -95,16 +95,16 @@ pub record NothingLost (a : ReplayAnswer) (p : ℕ) : Type 0 where
 -- of every replay of which `RoundTrip` tells that it gives the queues
 abbrev pub RoundTripNothingLost : Type 0
 RoundTripNothingLost = (h : List Fed) (l : Lent) → Run h l
-    → (scratch scratch′ : List ℕ) (m m′ : Memory) (a : ReplayAnswer) → length scratch ≡ length (l .scratch) → capacities m ≡ capacities (l .memory)
-    → ReplayKept (l .log) scratch m a scratch′ m′ → NothingLost a (l .place)
+    → (scratch scratch′ : List ℕ) (m m′ : Memory) (ks ks′ : List ℕ) (a : ReplayAnswer) → length scratch ≡ length (l .scratch) → capacities m ≡ capacities (l .memory)
+    → length ks ≡ length (l .largest) → ReplayKept (l .log) scratch m ks a scratch′ m′ ks′ → NothingLost a (l .place)
 
 -- ---- demand 3: one corruption is counted
 
 -- by any reading, and by any replay that is not refused
 pub record CountsOne (hit : List ℕ) (limit : ℕ) : Type 0 where
   pub reading : (scratch : List ℕ) (gs : List Given) → length scratch ≡ limit → Reads hit scratch fresh gs → lostIn gs ≡ 1
-  pub replay : (scratch scratch′ : List ℕ) (m m′ : Memory) (lost bytes resumed : ℕ) → length scratch ≡ limit
-      → ReplayKept hit scratch m (replayed lost bytes resumed) scratch′ m′ → lost ≡ 1
+  pub replay : (scratch scratch′ : List ℕ) (m m′ : Memory) (ks ks′ : List ℕ) (lost bytes resumed : ℕ) → length scratch ≡ limit
+      → ReplayKept hit scratch m ks (replayed lost bytes resumed) scratch′ m′ ks′ → lost ≡ 1
 
 -- of every hit of which `OneHitFrame` tells the answers and the queues
 abbrev pub OneHitCounted : Type 0
@@ -120,8 +120,8 @@ OneHitCounted = (h : List Fed) (l : Lent) → Run h l
 
 -- no more than the whole blocks have, by any replay that is not refused
 abbrev pub ReplayLostWithin : Type 0
-ReplayLostWithin = (log scratch scratch′ : List ℕ) (m m′ : Memory) (lost bytes resumed : ℕ)
-    → ReplayKept log scratch m (replayed lost bytes resumed) scratch′ m′ → bytes ≤ blocks log * 32768
+ReplayLostWithin = (log scratch scratch′ : List ℕ) (m m′ : Memory) (ks ks′ : List ℕ) (lost bytes resumed : ℕ)
+    → ReplayKept log scratch m ks (replayed lost bytes resumed) scratch′ m′ ks′ → bytes ≤ blocks log * 32768
 
 -- none of a log that calls wrote
 abbrev pub CallsLoseNothing : Type 0
@@ -130,8 +130,8 @@ CallsLoseNothing = (h : List Fed) (l : Lent) → Run h l → lostBytes (l .log) 
 -- so many are lost of a log, and so many does any replay tell that is not refused
 pub record LosesBytes (hit : List ℕ) (limit n : ℕ) : Type 0 where
   pub reading : lostBytes hit limit ≡ n
-  pub replay : (scratch scratch′ : List ℕ) (m m′ : Memory) (lost bytes resumed : ℕ) → length scratch ≡ limit
-      → ReplayKept hit scratch m (replayed lost bytes resumed) scratch′ m′ → bytes ≡ n
+  pub replay : (scratch scratch′ : List ℕ) (m m′ : Memory) (ks ks′ : List ℕ) (lost bytes resumed : ℕ) → length scratch ≡ limit
+      → ReplayKept hit scratch m ks (replayed lost bytes resumed) scratch′ m′ ks′ → bytes ≡ n
 
 -- What one hit frame costs: the struck frames and the other frames of their owners. Of every hit of which `OneHitFrame` tells the answers and the queues.
 abbrev pub HitCosts : Type 0
@@ -162,8 +162,8 @@ pub record NextGiven (m : Memory) (n : List ℕ) (lo : Lower) (hi : Upper) (i : 
   pub next : rangeNumbers (m .payloads) a ≡ record { refusal = 0; found = firstOf later }
 
 abbrev pub AskedAgain : Type 0
-AskedAgain = (m : Memory) (n : List ℕ) (lo : Lower) (hi : Upper) (i : Item) (a : QuestionAnswer) → RangeGave m n lo hi (firstItem i)
-    → RangeKept m n (afterPosition (i .position)) hi a → NextGiven m n lo hi i a
+AskedAgain = (m : Memory) (ks n : List ℕ) (lo : Lower) (hi : Upper) (i : Item) (a : QuestionAnswer) → RangeGave m ks n lo hi (firstItem i)
+    → RangeKept m ks n (afterPosition (i .position)) hi a → NextGiven m n lo hi i a
 
 -- and so on to the last: all records of the queue in the range, by position
 pub record AllGiven (m : Memory) (n : List ℕ) (lo : Lower) (hi : Upper) (is : List Item) : Type 0 where
@@ -172,7 +172,7 @@ pub record AllGiven (m : Memory) (n : List ℕ) (lo : Lower) (hi : Upper) (is : 
   pub all : is ≡ allInRange lo hi (queue .records)
 
 abbrev pub AskedThrough : Type 0
-AskedThrough = (m : Memory) (n : List ℕ) (lo : Lower) (hi : Upper) (is : List Item) → Asks m n hi lo is → AllGiven m n lo hi is
+AskedThrough = (m : Memory) (ks n : List ℕ) (lo : Lower) (hi : Upper) (is : List Item) → Asks m ks n hi lo is → AllGiven m n lo hi is
 
 -- ---- "whole blocks of 32,768 bytes; a shorter tail is never touched"
 

@@ -12,7 +12,9 @@ use Rattle.slices.proofs.Bytes.{take-bytes, drop-bytes}
 use Rattle.record.specs.Record.{Item, item}
 use Rattle.queues.specs.declared.RecordEntry.{RecordEntry}
 use Rattle.queues.specs.Queues.{Capacities}
-use Rattle.queues.specs.Layout.{wordsFor, Row, rows, Arrived, arrivals, itemsOf, heldEntries, queuesFrom, meaning, atMost64, queueRoom, capacities}
+use Rattle.queues.specs.Layout.{wordsFor, Row, rows, Arrived, arrivals, itemsOf, heldEntries, queuesFrom, meaning, arranged, atMost64, queueRoom, capacities}
+use Rattle.queues.proofs.Both.{and-left}
+use Rattle.largest.specs.Table.{keptTrue}
 use Rattle.queues.proofs.ArrangedFacts.{arranged-arrangement}
 use Rattle.queues.proofs.SumsHeld.{sums-mean}
 use Rattle.calls.specs.Claims.{queuesArranged}
@@ -83,11 +85,11 @@ memory-typed m b = queues-typed 0 (rows (m .table)) (m .names) (arrivals (heldEn
 
 pub memory-copy-replays : MemoryCopyReplays
 unfolding lentOf
-memory-copy-replays target scratch m b e c f limit l =
-    states-copy-replays (lentOf target scratch m) c e
-    (subst (λ (x : Capacities). queuesArranged x (meaning m) ≡ true) (sym f) (memory-arranged m (copy-passed (lentOf target scratch m) e .is-arranged)))
+memory-copy-replays target scratch m ks b e c f limit l =
+    states-copy-replays (lentOf target scratch m ks) c e
+    (subst (λ (x : Capacities). queuesArranged x (meaning m) ≡ true) (sym f) (memory-arranged m (and-left (arranged m) (keptTrue m ks) (copy-passed (lentOf target scratch m ks) e .is-arranged))))
     (memory-typed m b) limit (omega arith)
 
 pub memory-copies-equal : MemoryCopiesEqual
 unfolding lentOf
-memory-copies-equal t₁ t₂ s₁ s₂ m₁ m₂ e f q l = states-copies-equal (lentOf t₁ s₁ m₁) (lentOf t₂ s₂ m₂) e f q l
+memory-copies-equal t₁ t₂ s₁ s₂ m₁ m₂ ks₁ ks₂ e f q l = states-copies-equal (lentOf t₁ s₁ m₁ ks₁) (lentOf t₂ s₂ m₂ ks₂) e f q l

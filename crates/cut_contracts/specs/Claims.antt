@@ -33,10 +33,10 @@ abbrev pub cutLent : Lent → Lent → ℕ → List ℕ
 cutLent l l′ c = take c (l′ .log) ++ drop c (l .log)
 
 -- a replay of a log that was not refused, and what is lent to the first call after it
-pub record Opened (log scratch : List ℕ) (m : Memory) (l₀ : Lent) : Type 0 where
+pub record Opened (log scratch : List ℕ) (m : Memory) (ks : List ℕ) (l₀ : Lent) : Type 0 where
   pub lost : ℕ
   pub lost-bytes : ℕ
-  pub kept : ReplayKept log scratch m (replayed lost lost-bytes (l₀ .place)) (l₀ .scratch) (l₀ .memory)
+  pub kept : ReplayKept log scratch m ks (replayed lost lost-bytes (l₀ .place)) (l₀ .scratch) (l₀ .memory) (l₀ .largest)
   pub log-is : l₀ .log ≡ log
 
 -- a list of calls from there on, the latest first, each lent what the one before left
@@ -53,16 +53,17 @@ recordsFrom l₀ h = machineFrom (record { records = []; queues = meaning (l₀ 
 abbrev pub ReadsAs : List ℕ → ℕ → List Given → Type 0
 ReadsAs log limit given = (scratch : List ℕ) (gs : List Given) → length scratch ≡ limit → Reads log scratch fresh gs → gs ≡ given
 
--- every replay of this log in memory of the sizes of m₀ is not refused and gives the queues that m₀ means
+-- every replay of this log in memory of the sizes of m₀, with a further table that is long enough, is not refused and gives the queues that m₀ means
 abbrev pub ReplayGives : List ℕ → ℕ → Memory → Type 0
-ReplayGives log limit m₀ = (scratch scratch′ : List ℕ) (m m′ : Memory) (a : ReplayAnswer) → length scratch ≡ limit → capacities m ≡ capacities m₀
-    → ReplayKept log scratch m a scratch′ m′ → Gives a m m′ (meaning m₀)
+ReplayGives log limit m₀ = (scratch scratch′ : List ℕ) (m m′ : Memory) (ks ks′ : List ℕ) (a : ReplayAnswer) → length scratch ≡ limit → capacities m ≡ capacities m₀
+    → length (m .entries) ≤ length ks → ReplayKept log scratch m ks a scratch′ m′ ks′ → Gives a m m′ (meaning m₀)
 
 -- "reading gives all earlier records in order, the last one too if all its frames count as stored, at most one corruption answer, and no other record"; replay, whatever
--- memory is lent, gives what these records give, and in memory of the same sizes the queues before the call, or after it where all is stored
+-- memory is lent with a further table that is long enough, gives what these records give, and in memory of the same sizes the queues before the call, or after it where all is stored
 pub record AfterCut (l l′ : Lent) (before : List Record) (r : Record) (x : Left) (cut : List ℕ) (limit : ℕ) : Type 0 where
   pub reading : ReadsAs cut limit (map gaveRecord before ++ (cutAnswered x r ++ (gaveEnd ∷ [])))
-  pub replay : (scratch scratch′ : List ℕ) (m m′ : Memory) (a : ReplayAnswer) → length scratch ≡ limit → ReplayKept cut scratch m a scratch′ m′
+  pub replay : (scratch scratch′ : List ℕ) (m m′ : Memory) (ks ks′ : List ℕ) (a : ReplayAnswer) → length scratch ≡ limit → length (m .entries) ≤ length ks
+      → ReplayKept cut scratch m ks a scratch′ m′ ks′
       → ReplaysAs (replayRecords (capacities m) [] (before ++ keptOf x r)) a m m′
   pub replay-before : keptOf x r ≡ [] → ReplayGives cut limit (l .memory)
   pub replay-after : keptOf x r ≡ r ∷ [] → ReplayGives cut limit (l′ .memory)
@@ -81,6 +82,6 @@ abbrev pub PowerCutOn : Type 0
 PowerCutOn = (h : List Fed) (l : Lent) → Run h l → (k : Call) (a : CallAnswer) (l′ : Lent) (w : Listed) → Wrote h l k a l′ w
     → (c again : ℕ) → l .place ≤ c → c ≤ l′ .place → Unfit c (w .frames)
     → (scratch : List ℕ) → NoneLonger (length scratch) (machine h .records ++ (w ∷ [])) → NoneLonger again (machine h .records ++ (w ∷ []))
-    → (m : Memory) (l₀ : Lent) → Opened (cutLent l l′ c) scratch m l₀
+    → (m : Memory) (ks : List ℕ) (l₀ : Lent) → Opened (cutLent l l′ c) scratch m ks l₀
     → (h₂ : List Fed) (l₂ : Lent) → Since l₀ h₂ l₂ → NoneLonger again (recordsFrom l₀ h₂)
     → AfterCalls (recordsOf (machine h .records)) (w .written) (left c (w .frames)) (recordsOf (recordsFrom l₀ h₂)) l₂ again

@@ -1,80 +1,50 @@
 -- From open on the table is never 6, and its answers are those worked out afresh.
 -- Assumes nothing.
-use mathlib.Core.Path.{_≡_, sym, ap, subst, _∙_}
-use mathlib.Core.Bool.{Bool, true}
+use mathlib.Core.Path.{_≡_, sym, ap, _∙_}
+use mathlib.Core.Bool.{true}
 use mathlib.Core.List.{List}
-use Prim.Native.Nat.{ℕ, zero, suc, _≤_}
-use native.Mathlib.Omega.{arith}
-use lib.Dec.{leb}
-use lib.ListN.{length}
-use borrow.Author.Tests.{leb-true}
-use Rattle.queues.specs.Queues.{Queue, Capacities}
-use Rattle.queues.specs.Layout.{Memory, heldEntries, capacities, Leaves}
+use Prim.Native.Nat.{ℕ}
+use Rattle.queues.specs.Layout.{Memory, heldEntries}
+use Rattle.queues.proofs.Both.{both}
 use Rattle.queues.proofs.Parts.{place-numbered}
-use Rattle.queues.proofs.Both.{and-left}
-use Rattle.calls.specs.State.{bytesWritten}
-use Rattle.calls.specs.Calls.{callOf}
 use Rattle.calls.specs.Machine.{Fed}
-use Rattle.calls.specs.Replay.{replayOf, outcomeQueues}
-use Rattle.contracts.specs.Contracts.{Lent, stateOf, MemoryLeft, ReplayLeft}
+use Rattle.contracts.specs.Contracts.{Lent}
 use Rattle.contracts.specs.Run.{opening, Run, begin}
 use Rattle.contracts.specs.Run.{Run.call as run-call}
+use Rattle.contracts.proofs.Left.{with-arranged, with-kept}
+use Rattle.contracts.proofs.ReplayTable.{replay-arranged}
 use Rattle.cut_contracts.specs.Claims.{Since, none, call}
-use Rattle.largest.specs.Largest.{keptNumbers, keptAnswer}
-use Rattle.largest.specs.Table.{startsWith, keptFits, keptTrue, keptLeft}
-use Rattle.largest.proofs.Table.{table-tells, table-holds, table-empty}
-use Rattle.largest_contracts.specs.Since.{tableLeft, tableAfter, Starts, not-six, opened}
+use Rattle.cut_contracts.proofs.PowerCut.{since-kept}
+use Rattle.largest.specs.Largest.{keptAnswer}
+use Rattle.largest.specs.Table.{arrangedWith}
+use Rattle.largest.proofs.Table.{table-tells, table-empty}
+use Rattle.largest_contracts.specs.Since.{Starts, not-six, opened}
 use Rattle.largest_contracts.specs.Promises.{LargestAfresh}
-use Rattle.largest_contracts.specs.Claims.{NotSix, SinceHolds, RunBegins, RunSince}
+use Rattle.largest_contracts.specs.Claims.{SinceHolds, RunBegins, RunSince, AnyTableStarts}
 
--- the record table stays as long as it was
-same-entries : (m m′ : Memory) → capacities m′ ≡ capacities m → length (m′ .entries) ≡ length (m .entries)
-unfolding capacities
-same-entries m m′ e = ap (λ (c : Capacities). c .records) e
-
-long-enough : (m : Memory) (ks : List ℕ) → keptTrue m ks ≡ true → length (m .entries) ≤ length ks
-unfolding keptFits
-long-enough m ks t =
-    leb-true (length (m .entries)) (length ks) (and-left (leb (length (m .entries)) (length ks)) (startsWith ks (keptNumbers (heldEntries m))) t)
-
-left-holds : (m m′ : Memory) (ks : List ℕ) (qs : List Queue) → Leaves m m′ qs → length (m .entries) ≤ length ks → NotSix m′ (keptLeft ks m′)
-left-holds m m′ ks qs w l =
-    record { queue-memory = w .still-arranged; table = table-holds m′ ks (w .still-arranged) (omega (arith, same-entries m m′ (w .same-room))) }
-
-call-holds : (n : ℕ) (m m′ : Memory) (ks : List ℕ) (qs : List Queue) → NotSix m ks → MemoryLeft n m m′ qs → NotSix m′ (tableLeft n ks m′)
-unfolding tableLeft
-call-holds zero m m′ ks qs w l = subst (λ (x : Memory). NotSix x ks) (sym l) w
-call-holds (suc n) m m′ ks qs w l = left-holds m m′ ks qs l (long-enough m ks (w .table))
-
-starts-hold : {m : Memory} {ks : List ℕ} → Starts m ks → NotSix m ks
-starts-hold (not-six m ks a t) = record { queue-memory = a; table = t }
-starts-hold (opened log scratch scratch′ m m′ a ks e l w) =
-    let qs : List Queue = outcomeQueues (replayOf log (capacities m) (length scratch)) in
-    left-holds m m′ ks qs (subst (λ (b : Bool). ReplayLeft b m m′ qs) e (w .memory-left)) l
-
-holds : {l₀ l : Lent} {h : List Fed} (ks : List ℕ) → NotSix (l₀ .memory) ks → (s : Since l₀ h l) → NotSix (l .memory) (tableAfter ks s)
-unfolding tableAfter
-holds ks o none = o
-holds ks o (call {h} {l} k a l′ s w) =
-    call-holds (bytesWritten (callOf (stateOf l) k .answer)) (l .memory) (l′ .memory) (tableAfter ks s) (callOf (stateOf l) k .state .queues) (holds ks o s) (w .memory-left)
+starts-hold : {m : Memory} {ks : List ℕ} → Starts m ks → arrangedWith m ks ≡ true
+starts-hold (not-six m ks e) = e
+starts-hold (opened log scratch scratch′ m m′ ks ks′ a e l w) = replay-arranged log scratch scratch′ m m′ ks ks′ a e l w
 
 pub since-holds : SinceHolds
-since-holds l₀ l h ks o s = holds ks (starts-hold o) s
+since-holds l₀ l h o s = since-kept s (starts-hold o)
 
 pub largest-afresh : LargestAfresh
-largest-afresh l₀ l h ks n q o s f =
-    let w : NotSix (l .memory) (tableAfter ks s) = since-holds l₀ l h ks o s in
-    ap (λ (k : ℕ). keptAnswer k (heldEntries (l .memory)) (tableAfter ks s)) (sym (place-numbered (l .memory) n))
-    ∙ table-tells (l .memory) (tableAfter ks s) n q (w .queue-memory) (w .table) f
+largest-afresh l₀ l h n q o s f =
+    let w : arrangedWith (l .memory) (l .largest) ≡ true = since-holds l₀ l h o s in
+    ap (λ (k : ℕ). keptAnswer k (heldEntries (l .memory)) (l .largest)) (sym (place-numbered (l .memory) n))
+    ∙ table-tells (l .memory) (l .largest) n q (with-arranged (l .memory) (l .largest) w) (with-kept (l .memory) (l .largest) w) f
 
 -- ---- a run from an empty start
 
 begins : {h : List Fed} {l : Lent} → Run h l → RunBegins h l
-begins (begin n tail scratch m a b c e f) =
-    record { first = opening n tail scratch m; since = none; starts = λ ks g. not-six m ks e (table-empty m ks e f g) }
+begins (begin n tail scratch m ks a b c e f) = record { first = opening n tail scratch m ks; since = none; starts = not-six m ks e }
 begins (run-call k a l′ r w) =
     let x = begins r in
     record { first = x .first; since = call k a l′ (x .since) w; starts = x .starts }
 
 pub run-since : RunSince
 run-since h l r = begins r
+
+pub any-table-starts : AnyTableStarts
+any-table-starts m ks a e l = not-six m ks (both a (table-empty m ks a e l))

@@ -12,13 +12,13 @@ use Rattle.contracts.specs.Contracts.{Lent}
 use Rattle.contracts.specs.Run.{Run}
 use Rattle.cut_contracts.specs.Claims.{Since}
 use Rattle.largest.specs.Largest.{largestOf, keptAnswer}
-use Rattle.largest_contracts.specs.Since.{tableAfter, Starts}
+use Rattle.largest_contracts.specs.Since.{Starts}
 use Rattle.largest_contracts.specs.Balance.{gone, accepted}
 
 -- "From open on, each call lent what the one before left, it equals the answer worked out afresh from the held records."
 abbrev pub LargestAfresh : Type 0
-LargestAfresh = (l₀ l : Lent) (h : List Fed) (ks n : List ℕ) (q : Queue) → Starts (l₀ .memory) ks → (s : Since l₀ h l) → find n (meaning (l .memory)) ≡ held q
-    → keptAnswer (queueNumber n (meaning (l .memory))) (heldEntries (l .memory)) (tableAfter ks s) ≡ largestOf (q .records)
+LargestAfresh = (l₀ l : Lent) (h : List Fed) (n : List ℕ) (q : Queue) → Starts (l₀ .memory) (l₀ .largest) → Since l₀ h l → find n (meaning (l .memory)) ≡ held q
+    → keptAnswer (queueNumber n (meaning (l .memory))) (heldEntries (l .memory)) (l .largest) ≡ largestOf (q .records)
 
 -- "Payload bytes held equal those accepted less those evicted or deleted, both summed over the calls of such a run from an empty start with no replay in it."
 abbrev pub LentBalance : Type 0

@@ -1,10 +1,11 @@
 // The questions.
 ghost use mathlib.Core.Path.{_≡_};
-ghost use Rattle.contracts.specs.Numbers.{positionsNumbers};
+ghost use Rattle.contracts.specs.Numbers.{positionsNumbers, largestNumbers};
 ghost use Rattle.abi_call.specs.OnBytes.{memoryBytes};
+ghost use Rattle.abi_largest.specs.Numbers.{numbers};
 ghost use Rattle.abi_tables.specs.Tables.{memoryIn};
-ghost use Rattle.mrecordlog.specs.Told.{lowerOf, upperOf, rangeTold, tellRange, positionsTold, tellPositions};
-ghost use Rattle.mrecordlog.specs.Exported.{RangeExported, PositionsExported};
+ghost use Rattle.mrecordlog.specs.Told.{lowerOf, upperOf, rangeTold, tellRange, positionsTold, tellPositions, largestTold, tellLargest};
+ghost use Rattle.mrecordlog.specs.Exported.{RangeExported, PositionsExported, LargestExported};
 use crate::answers::number_told;
 use multi_record_log::Lower;
 use multi_record_log::QuestionAnswer;
@@ -70,6 +71,13 @@ fn tell_range(
             *len = 0;
             99
         }
+        QuestionAnswer::Largest { length, position } => {
+            *found = 0;
+            *at = 0;
+            *from = 0;
+            *len = 0;
+            99
+        }
         QuestionAnswer::Refused(number) => {
             *found = 0;
             *at = 0;
@@ -98,6 +106,11 @@ fn tell_positions(answer: QuestionAnswer, first: &mut u64, following: &mut u64) 
             *following = 0;
             99
         }
+        QuestionAnswer::Largest { length, position } => {
+            *first = 0;
+            *following = 0;
+            99
+        }
         QuestionAnswer::Nothing => {
             *first = 0;
             *following = 0;
@@ -111,11 +124,53 @@ fn tell_positions(answer: QuestionAnswer, first: &mut u64, following: &mut u64) 
     }
 }
 
+fn tell_largest(answer: QuestionAnswer, found: &mut u64, len: &mut u64, at: &mut u64) -> u64
+    ensures { λ r. ⌜ largestTold r (now (found .exit)) (now (len .exit)) (now (at .exit)) ≡ tellLargest (largestNumbers answer) ⌝ }
+{
+    match answer {
+        QuestionAnswer::Largest { length, position } => {
+            *found = 1;
+            *len = length as u64;
+            *at = position;
+            0
+        }
+        QuestionAnswer::Nothing => {
+            *found = 0;
+            *len = 0;
+            *at = 0;
+            0
+        }
+        QuestionAnswer::Positions { start, next } => {
+            *found = 0;
+            *len = 0;
+            *at = 0;
+            99
+        }
+        QuestionAnswer::Record {
+            position,
+            start,
+            length,
+        } => {
+            *found = 0;
+            *len = 0;
+            *at = 0;
+            99
+        }
+        QuestionAnswer::Refused(number) => {
+            *found = 0;
+            *len = 0;
+            *at = 0;
+            number_told(number)
+        }
+    }
+}
+
 #[no_mangle]
 pub extern "C" fn mrecordlog_range(
     names: &[u8],
     payloads: &[u8],
     entries: &[u8],
+    largest: &[u8],
     table: &[u8],
     name: &[u8],
     lower_kind: u64,
@@ -128,7 +183,8 @@ pub extern "C" fn mrecordlog_range(
     length: &mut u64,
 ) -> u64
     ensures { λ r. ⌜ RangeExported
-        (memoryIn (memoryBytes (now (names .entry)) (now (payloads .entry)) (now (entries .entry)) (now (table .entry))))
+        (memoryIn (memoryBytes (now (names .entry)) (now (payloads .entry)) (now (entries .entry)) (now (largest .entry)) (now (table .entry))))
+        (numbers (now (largest .entry)))
         (now (name .entry))
         (lowerOf «lower_kind» lower)
         (upperOf «upper_kind» upper)
@@ -136,7 +192,7 @@ pub extern "C" fn mrecordlog_range(
 {
     let lo = lower_bound(lower_kind, lower);
     let hi = upper_bound(upper_kind, upper);
-    let answer = multi_record_log::range(names, payloads, entries, table, name, lo, hi);
+    let answer = multi_record_log::range(names, payloads, entries, largest, table, name, lo, hi);
     tell_range(answer, found, position, start, length)
 }
 
@@ -145,16 +201,40 @@ pub extern "C" fn mrecordlog_positions(
     names: &[u8],
     payloads: &[u8],
     entries: &[u8],
+    largest: &[u8],
     table: &[u8],
     name: &[u8],
     start: &mut u64,
     next: &mut u64,
 ) -> u64
     ensures { λ r. ⌜ PositionsExported
-        (memoryIn (memoryBytes (now (names .entry)) (now (payloads .entry)) (now (entries .entry)) (now (table .entry))))
+        (memoryIn (memoryBytes (now (names .entry)) (now (payloads .entry)) (now (entries .entry)) (now (largest .entry)) (now (table .entry))))
+        (numbers (now (largest .entry)))
         (now (name .entry))
         (positionsTold r (now (start .exit)) (now (next .exit))) ⌝ }
 {
-    let answer = multi_record_log::positions(names, payloads, entries, table, name);
+    let answer = multi_record_log::positions(names, payloads, entries, largest, table, name);
     tell_positions(answer, start, next)
+}
+
+#[no_mangle]
+pub extern "C" fn mrecordlog_largest(
+    names: &[u8],
+    payloads: &[u8],
+    entries: &[u8],
+    largest: &[u8],
+    table: &[u8],
+    name: &[u8],
+    found: &mut u64,
+    length: &mut u64,
+    position: &mut u64,
+) -> u64
+    ensures { λ r. ⌜ LargestExported
+        (memoryIn (memoryBytes (now (names .entry)) (now (payloads .entry)) (now (entries .entry)) (now (largest .entry)) (now (table .entry))))
+        (numbers (now (largest .entry)))
+        (now (name .entry))
+        (largestTold r (now (found .exit)) (now (length .exit)) (now (position .exit))) ⌝ }
+{
+    let answer = multi_record_log::largest(names, payloads, entries, largest, table, name);
+    tell_largest(answer, found, length, position)
 }

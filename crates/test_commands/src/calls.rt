@@ -28,6 +28,7 @@ fn call_of(
     names: &mut [u8],
     payloads: &mut [u8],
     entries: &mut [u8],
+    largest: &mut [u8],
     table: &mut [u8],
     kind: u8,
     name: &[u8],
@@ -37,10 +38,30 @@ fn call_of(
     lens: &[u64],
 ) -> Called {
     if kind == CREATE {
-        return multi_record_log::create(log, at, scratch, names, payloads, entries, table, name);
+        return multi_record_log::create(
+            log,
+            at,
+            scratch,
+            names,
+            payloads,
+            entries,
+            largest,
+            table,
+            name,
+        );
     }
     if kind == DELETE {
-        return multi_record_log::delete(log, at, scratch, names, payloads, entries, table, name);
+        return multi_record_log::delete(
+            log,
+            at,
+            scratch,
+            names,
+            payloads,
+            entries,
+            largest,
+            table,
+            name,
+        );
     }
     if kind == TRUNCATE {
         return multi_record_log::truncate(
@@ -50,6 +71,7 @@ fn call_of(
             names,
             payloads,
             entries,
+            largest,
             table,
             name,
             through,
@@ -62,6 +84,7 @@ fn call_of(
         names,
         payloads,
         entries,
+        largest,
         table,
         name,
         at_position,
@@ -90,6 +113,7 @@ fn call(
     names: &mut [u8],
     payloads: &mut [u8],
     entries: &mut [u8],
+    largest: &mut [u8],
     table: &mut [u8],
     kind: u8,
     name: &[u8],
@@ -112,6 +136,7 @@ fn call(
         names,
         payloads,
         entries,
+        largest,
         table,
         kind,
         name,
@@ -131,6 +156,7 @@ struct Sums {
     names: u64,
     payloads: u64,
     entries: u64,
+    largest: u64,
     table: u64,
 }
 
@@ -142,6 +168,7 @@ fn no_sums() -> Sums {
         names: 0,
         payloads: 0,
         entries: 0,
+        largest: 0,
         table: 0,
     }
 }
@@ -155,6 +182,7 @@ fn sums_of(
     names: &[u8],
     payloads: &[u8],
     entries: &[u8],
+    largest: &[u8],
     table: &[u8],
 ) -> Sums {
     if !asked {
@@ -167,6 +195,7 @@ fn sums_of(
         names: sum(names),
         payloads: sum(payloads),
         entries: sum(entries),
+        largest: sum(largest),
         table: sum(table),
     }
 }
@@ -175,7 +204,11 @@ fn same(a: Sums, b: Sums) -> bool {
     if a.log != b.log || a.place != b.place || a.scratch != b.scratch {
         return false;
     }
-    a.names == b.names && a.payloads == b.payloads && a.entries == b.entries && a.table == b.table
+    a.names == b.names
+        && a.payloads == b.payloads
+        && a.entries == b.entries
+        && a.largest == b.largest
+        && a.table == b.table
 }
 
 fn show_same(asked: bool, old: Sums, new: Sums) {
@@ -194,13 +227,24 @@ pub fn do_call(
     names: &mut [u8],
     payloads: &mut [u8],
     entries: &mut [u8],
+    largest: &mut [u8],
     table: &mut [u8],
     kind: u8,
     name: &[u8],
     line: &[u8],
 ) {
     let asked = asks_same(line);
-    let old = sums_of(asked, log, *at, scratch, names, payloads, entries, table);
+    let old = sums_of(
+        asked,
+        log,
+        *at,
+        scratch,
+        names,
+        payloads,
+        entries,
+        largest,
+        table,
+    );
     call(
         log,
         at,
@@ -208,11 +252,22 @@ pub fn do_call(
         names,
         payloads,
         entries,
+        largest,
         table,
         kind,
         name,
         line,
     );
-    let new = sums_of(asked, log, *at, scratch, names, payloads, entries, table);
+    let new = sums_of(
+        asked,
+        log,
+        *at,
+        scratch,
+        names,
+        payloads,
+        entries,
+        largest,
+        table,
+    );
     show_same(asked, old, new);
 }

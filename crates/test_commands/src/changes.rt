@@ -27,6 +27,14 @@ pub fn set_queues(table: &mut [u8], line: &[u8]) {
     }
 }
 
+// A number of the further table set.
+pub fn keep(largest: &mut [u8], line: &[u8]) {
+    let at = place(line);
+    if at < largest.len() / 8 {
+        fields::put_u64(largest, 8 * at, number(line, b"number", 0));
+    }
+}
+
 fn xor(log: &mut [u8], at: u64, by: u64) {
     if at < log.len() as u64 {
         let i = at as usize;

@@ -16,37 +16,43 @@ pub const FIRST: u8 = 6;
 
 pub const RANGES: u8 = 7;
 
-pub const QUEUES: u8 = 8;
+pub const LARGEST: u8 = 8;
 
-pub const REPLAY: u8 = 9;
+pub const QUEUES: u8 = 9;
 
-pub const REOPEN: u8 = 10;
+pub const REPLAY: u8 = 10;
 
-pub const READS: u8 = 11;
+pub const REOPEN: u8 = 11;
 
-pub const START: u8 = 12;
+pub const READS: u8 = 12;
 
-pub const STAIN: u8 = 13;
+pub const START: u8 = 13;
 
-pub const MOVE: u8 = 14;
+pub const STAIN: u8 = 14;
 
-pub const SET: u8 = 15;
+pub const MOVE: u8 = 15;
 
-pub const XOR: u8 = 16;
+pub const KEEP: u8 = 16;
 
-pub const CUT: u8 = 17;
+pub const SOIL: u8 = 17;
 
-pub const PUT: u8 = 18;
+pub const SET: u8 = 18;
 
-pub const FILL: u8 = 19;
+pub const XOR: u8 = 19;
 
-pub const PLACE: u8 = 20;
+pub const CUT: u8 = 20;
 
-pub const HELD: u8 = 21;
+pub const PUT: u8 = 21;
 
-pub const SCRATCH: u8 = 22;
+pub const FILL: u8 = 22;
 
-pub const LOG: u8 = 23;
+pub const PLACE: u8 = 23;
+
+pub const HELD: u8 = 24;
+
+pub const SCRATCH: u8 = 25;
+
+pub const LOG: u8 = 26;
 
 // The number where the line is that command, else the other one.
 fn or(line: &[u8], text: &[u8], kind: u8, other: u8) -> u8 {
@@ -64,18 +70,24 @@ fn looks(line: &[u8], other: u8) -> u8 {
     let k = or(line, b"positions", POSITIONS, other);
     let k = or(line, b"first", FIRST, k);
     let k = or(line, b"ranges", RANGES, k);
+    let k = or(line, b"largest", LARGEST, k);
     let k = or(line, b"queues", QUEUES, k);
     let k = or(line, b"replay", REPLAY, k);
     let k = or(line, b"reopen", REOPEN, k);
     or(line, b"reads", READS, k)
 }
 
-fn changes(line: &[u8], other: u8) -> u8 {
+fn sets(line: &[u8], other: u8) -> u8 {
     let k = or(line, b"start", START, other);
     let k = or(line, b"stain", STAIN, k);
     let k = or(line, b"move", MOVE, k);
-    let k = or(line, b"set", SET, k);
-    let k = or(line, b"xor", XOR, k);
+    let k = or(line, b"keep", KEEP, k);
+    let k = or(line, b"soil", SOIL, k);
+    or(line, b"set", SET, k)
+}
+
+fn changes(line: &[u8], other: u8) -> u8 {
+    let k = or(line, b"xor", XOR, other);
     let k = or(line, b"cut", CUT, k);
     let k = or(line, b"put", PUT, k);
     or(line, b"fill", FILL, k)
@@ -89,7 +101,7 @@ fn shows(line: &[u8], other: u8) -> u8 {
 }
 
 pub fn kind_of(line: &[u8]) -> u8 {
-    shows(line, changes(line, looks(line, calls(line))))
+    shows(line, changes(line, sets(line, looks(line, calls(line)))))
 }
 
 // Whether the line asks if all that is lent is left as it was.

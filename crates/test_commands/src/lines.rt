@@ -6,6 +6,7 @@ use crate::bytes::named;
 use crate::bytes::part;
 use crate::calls::do_call;
 use crate::changes::change;
+use crate::changes::keep;
 use crate::changes::place;
 use crate::changes::set_queues;
 use crate::changes::stain;
@@ -13,10 +14,12 @@ use crate::changes::start;
 use crate::kinds::APPEND;
 use crate::kinds::CREATE;
 use crate::kinds::FILL;
+use crate::kinds::KEEP;
 use crate::kinds::MOVE;
 use crate::kinds::QUEUES;
 use crate::kinds::READS;
 use crate::kinds::SET;
+use crate::kinds::SOIL;
 use crate::kinds::STAIN;
 use crate::kinds::START;
 use crate::kinds::kind_of;
@@ -35,6 +38,7 @@ struct Lent {
     names: u64,
     payloads: u64,
     entries: u64,
+    largest: u64,
     table: u64,
 }
 
@@ -47,6 +51,7 @@ fn all() -> Lent {
         names: ALL,
         payloads: ALL,
         entries: ALL,
+        largest: ALL,
         table: ALL,
     }
 }
@@ -59,6 +64,7 @@ fn lent_by(line: &[u8], or: Lent) -> Lent {
         names: number(line, b"names", or.names),
         payloads: number(line, b"payload_bytes", or.payloads),
         entries: number(line, b"entries", or.entries),
+        largest: number(line, b"numbers", or.largest),
         table: number(line, b"table", or.table),
     }
 }
@@ -76,6 +82,7 @@ fn set(
     log: &mut [u8],
     at: &mut usize,
     scratch: &mut [u8],
+    largest: &mut [u8],
     table: &mut [u8],
     kind: u8,
     line: &[u8],
@@ -86,6 +93,10 @@ fn set(
         stain(scratch);
     } else if kind == MOVE {
         *at = place(line);
+    } else if kind == KEEP {
+        keep(largest, line);
+    } else if kind == SOIL {
+        stain(largest);
     } else {
         set_queues(table, line);
     }
@@ -108,6 +119,7 @@ fn do_simple(
     log: &mut [u8],
     at: &mut usize,
     scratch: &mut [u8],
+    largest: &mut [u8],
     table: &mut [u8],
     kind: u8,
     bytes: &[u8],
@@ -116,7 +128,7 @@ fn do_simple(
     if kind < START {
         do_text(line);
     } else if kind <= SET {
-        set(log, at, scratch, table, kind, line);
+        set(log, at, scratch, largest, table, kind, line);
     } else if kind <= FILL {
         change(log, kind, bytes, line);
     } else {
@@ -132,13 +144,14 @@ fn do_kind(
     names: &mut [u8],
     payloads: &mut [u8],
     entries: &mut [u8],
+    largest: &mut [u8],
     table: &mut [u8],
     kind: u8,
     name: &[u8],
     line: &[u8],
 ) {
     if kind < CREATE || READS < kind {
-        do_simple(log, at, scratch, table, kind, name, line);
+        do_simple(log, at, scratch, largest, table, kind, name, line);
         return;
     }
     if kind <= APPEND {
@@ -149,6 +162,7 @@ fn do_kind(
             names,
             payloads,
             entries,
+            largest,
             table,
             kind,
             name,
@@ -157,10 +171,20 @@ fn do_kind(
         return;
     }
     if kind <= QUEUES {
-        ask(names, payloads, entries, table, kind, name, line);
+        ask(names, payloads, entries, largest, table, kind, name, line);
         return;
     }
-    look(log, at, scratch, names, payloads, entries, table, kind);
+    look(
+        log,
+        at,
+        scratch,
+        names,
+        payloads,
+        entries,
+        largest,
+        table,
+        kind,
+    );
 }
 
 fn do_command(
@@ -170,6 +194,7 @@ fn do_command(
     names: &mut [u8],
     payloads: &mut [u8],
     entries: &mut [u8],
+    largest: &mut [u8],
     table: &mut [u8],
     line: &[u8],
 ) {
@@ -183,6 +208,7 @@ fn do_command(
         names,
         payloads,
         entries,
+        largest,
         table,
         kind_of(line),
         &bytes[..n],
@@ -198,6 +224,7 @@ fn do_lent(
     names: &mut [u8],
     payloads: &mut [u8],
     entries: &mut [u8],
+    largest: &mut [u8],
     table: &mut [u8],
     line: &[u8],
     lent: Lent,
@@ -207,7 +234,8 @@ fn do_lent(
     let c = part(lent.names, names);
     let d = part(lent.payloads, payloads);
     let e = part(lent.entries, entries);
-    let f = part(lent.table, table);
+    let f = part(lent.largest, largest);
+    let g = part(lent.table, table);
     do_command(
         &mut log[..a],
         at,
@@ -215,7 +243,8 @@ fn do_lent(
         &mut names[..c],
         &mut payloads[..d],
         &mut entries[..e],
-        &mut table[..f],
+        &mut largest[..f],
+        &mut table[..g],
         line,
     );
 }
@@ -241,6 +270,7 @@ fn do_line_at(
     names: &mut [u8; 32768],
     payloads: &mut [u8; 98304],
     entries: &mut [u8; 48000],
+    largest: &mut [u8; 9000],
     table: &mut [u8; 2000],
     list: &[u8],
     from: usize,
@@ -259,6 +289,7 @@ fn do_line_at(
         names,
         payloads,
         entries,
+        largest,
         table,
         line,
         lent_here,
@@ -273,6 +304,7 @@ fn run_lines(
     names: &mut [u8; 32768],
     payloads: &mut [u8; 98304],
     entries: &mut [u8; 48000],
+    largest: &mut [u8; 9000],
     table: &mut [u8; 2000],
     list: &[u8],
 ) {
@@ -286,6 +318,7 @@ fn run_lines(
             names,
             payloads,
             entries,
+            largest,
             table,
             list,
             from,
@@ -302,6 +335,7 @@ pub fn run(list: &[u8]) {
     let mut names = [0u8; 32768];
     let mut payloads = [0u8; 98304];
     let mut entries = [0u8; 48000];
+    let mut largest = [0u8; 9000];
     let mut table = [0u8; 2000];
     run_lines(
         &mut log,
@@ -310,6 +344,7 @@ pub fn run(list: &[u8]) {
         &mut names,
         &mut payloads,
         &mut entries,
+        &mut largest,
         &mut table,
         list,
     );

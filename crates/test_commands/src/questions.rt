@@ -6,6 +6,7 @@ use crate::answers::say_record;
 use crate::answers::text;
 use crate::bytes::table_word;
 use crate::kinds::FIRST;
+use crate::kinds::LARGEST;
 use crate::kinds::POSITIONS;
 use crate::kinds::RANGES;
 use crate::words::has;
@@ -25,6 +26,10 @@ fn say_answer(payloads: &[u8], answer: QuestionAnswer) {
             start,
             length,
         } => say_record(payloads, position, start, length),
+        QuestionAnswer::Largest { length, position } => {
+            say(b" largest ", length as u64);
+            say(b" at ", position);
+        }
         QuestionAnswer::Nothing => text(b" none"),
         QuestionAnswer::Refused(n) => refused(n),
     }
@@ -42,15 +47,26 @@ fn say_first(payloads: &[u8], answer: QuestionAnswer) {
             say(b" of ", length as u64);
         }
         QuestionAnswer::Positions { start: _, next: _ } => say_answer(payloads, answer),
+        QuestionAnswer::Largest {
+            length: _,
+            position: _,
+        } => say_answer(payloads, answer),
         QuestionAnswer::Nothing => say_answer(payloads, answer),
         QuestionAnswer::Refused(_) => say_answer(payloads, answer),
     }
 }
 
-fn positions(names: &[u8], payloads: &[u8], entries: &[u8], table: &[u8], name: &[u8]) {
+fn positions(
+    names: &[u8],
+    payloads: &[u8],
+    entries: &[u8],
+    largest: &[u8],
+    table: &[u8],
+    name: &[u8],
+) {
     say_answer(
         payloads,
-        multi_record_log::positions(names, payloads, entries, table, name),
+        multi_record_log::positions(names, payloads, entries, largest, table, name),
     );
 }
 
@@ -61,12 +77,21 @@ fn lower_bound(line: &[u8]) -> Lower {
     Lower::Unbounded
 }
 
-fn first(names: &[u8], payloads: &[u8], entries: &[u8], table: &[u8], name: &[u8], line: &[u8]) {
+fn first(
+    names: &[u8],
+    payloads: &[u8],
+    entries: &[u8],
+    largest: &[u8],
+    table: &[u8],
+    name: &[u8],
+    line: &[u8],
+) {
     let lower = lower_bound(line);
     let answer = multi_record_log::range(
         names,
         payloads,
         entries,
+        largest,
         table,
         name,
         lower,
@@ -80,6 +105,7 @@ fn range(
     names: &[u8],
     payloads: &[u8],
     entries: &[u8],
+    largest: &[u8],
     table: &[u8],
     name: &[u8],
     lower: Lower,
@@ -87,7 +113,7 @@ fn range(
 ) {
     say_answer(
         payloads,
-        multi_record_log::range(names, payloads, entries, table, name, lower, upper),
+        multi_record_log::range(names, payloads, entries, largest, table, name, lower, upper),
     );
 }
 
@@ -96,6 +122,7 @@ fn ranges_from(
     names: &[u8],
     payloads: &[u8],
     entries: &[u8],
+    largest: &[u8],
     table: &[u8],
     name: &[u8],
     lower: Lower,
@@ -105,6 +132,7 @@ fn ranges_from(
         names,
         payloads,
         entries,
+        largest,
         table,
         name,
         lower,
@@ -114,6 +142,7 @@ fn ranges_from(
         names,
         payloads,
         entries,
+        largest,
         table,
         name,
         lower,
@@ -123,6 +152,7 @@ fn ranges_from(
         names,
         payloads,
         entries,
+        largest,
         table,
         name,
         lower,
@@ -131,16 +161,43 @@ fn ranges_from(
 }
 
 // Lower bound none, from and after a position, each with upper bound none, through and before another.
-fn ranges(names: &[u8], payloads: &[u8], entries: &[u8], table: &[u8], name: &[u8], line: &[u8]) {
+fn ranges(
+    names: &[u8],
+    payloads: &[u8],
+    entries: &[u8],
+    largest: &[u8],
+    table: &[u8],
+    name: &[u8],
+    line: &[u8],
+) {
     let from = number(line, b"from", 0);
     let to = number(line, b"to", 0);
     text(b"range");
-    ranges_from(names, payloads, entries, table, name, Lower::Unbounded, to);
-    ranges_from(names, payloads, entries, table, name, Lower::From(from), to);
     ranges_from(
         names,
         payloads,
         entries,
+        largest,
+        table,
+        name,
+        Lower::Unbounded,
+        to,
+    );
+    ranges_from(
+        names,
+        payloads,
+        entries,
+        largest,
+        table,
+        name,
+        Lower::From(from),
+        to,
+    );
+    ranges_from(
+        names,
+        payloads,
+        entries,
+        largest,
         table,
         name,
         Lower::After(from),
@@ -150,7 +207,14 @@ fn ranges(names: &[u8], payloads: &[u8], entries: &[u8], table: &[u8], name: &[u
 }
 
 // All records of a queue, one question after the other.
-fn show_records(names: &[u8], payloads: &[u8], entries: &[u8], table: &[u8], name: &[u8]) {
+fn show_records(
+    names: &[u8],
+    payloads: &[u8],
+    entries: &[u8],
+    largest: &[u8],
+    table: &[u8],
+    name: &[u8],
+) {
     let mut lower = Lower::Unbounded;
     let mut left: usize = 1025;
     while 0 < left {
@@ -158,6 +222,7 @@ fn show_records(names: &[u8], payloads: &[u8], entries: &[u8], table: &[u8], nam
             names,
             payloads,
             entries,
+            largest,
             table,
             name,
             lower,
@@ -177,10 +242,17 @@ fn show_records(names: &[u8], payloads: &[u8], entries: &[u8], table: &[u8], nam
     }
 }
 
-fn show_queue(names: &[u8], payloads: &[u8], entries: &[u8], table: &[u8], name: &[u8]) {
+fn show_queue(
+    names: &[u8],
+    payloads: &[u8],
+    entries: &[u8],
+    largest: &[u8],
+    table: &[u8],
+    name: &[u8],
+) {
     say_bytes(b"queue ", name);
-    positions(names, payloads, entries, table, name);
-    show_records(names, payloads, entries, table, name);
+    positions(names, payloads, entries, largest, table, name);
+    show_records(names, payloads, entries, largest, table, name);
     text(b"\n");
 }
 
@@ -189,6 +261,7 @@ fn show_named(
     names: &[u8],
     payloads: &[u8],
     entries: &[u8],
+    largest: &[u8],
     table: &[u8],
     start: usize,
     len: usize,
@@ -200,7 +273,7 @@ fn show_named(
         return start;
     }
     let end = start + len;
-    show_queue(names, payloads, entries, table, &names[start..end]);
+    show_queue(names, payloads, entries, largest, table, &names[start..end]);
     end
 }
 
@@ -213,7 +286,7 @@ fn name_len(table: &[u8], k: usize) -> usize {
 }
 
 // All queues, in byte order of their names.
-pub fn show_queues(names: &[u8], payloads: &[u8], entries: &[u8], table: &[u8]) {
+pub fn show_queues(names: &[u8], payloads: &[u8], entries: &[u8], largest: &[u8], table: &[u8]) {
     let mut start: usize = 0;
     let mut k: usize = 0;
     while k < 64 {
@@ -221,9 +294,23 @@ pub fn show_queues(names: &[u8], payloads: &[u8], entries: &[u8], table: &[u8]) 
             return;
         }
         let len = name_len(table, k);
-        start = show_named(names, payloads, entries, table, start, len);
+        start = show_named(names, payloads, entries, largest, table, start, len);
         k += 1;
     }
+}
+
+fn largest_payload(
+    names: &[u8],
+    payloads: &[u8],
+    entries: &[u8],
+    largest: &[u8],
+    table: &[u8],
+    name: &[u8],
+) {
+    say_answer(
+        payloads,
+        multi_record_log::largest(names, payloads, entries, largest, table, name),
+    );
 }
 
 // The question of that kind.
@@ -231,18 +318,21 @@ pub fn ask(
     names: &[u8],
     payloads: &[u8],
     entries: &[u8],
+    largest: &[u8],
     table: &[u8],
     kind: u8,
     name: &[u8],
     line: &[u8],
 ) {
     if kind == POSITIONS {
-        positions(names, payloads, entries, table, name);
+        positions(names, payloads, entries, largest, table, name);
     } else if kind == FIRST {
-        first(names, payloads, entries, table, name, line);
+        first(names, payloads, entries, largest, table, name, line);
     } else if kind == RANGES {
-        ranges(names, payloads, entries, table, name, line);
+        ranges(names, payloads, entries, largest, table, name, line);
+    } else if kind == LARGEST {
+        largest_payload(names, payloads, entries, largest, table, name);
     } else {
-        show_queues(names, payloads, entries, table);
+        show_queues(names, payloads, entries, largest, table);
     }
 }

@@ -16,9 +16,10 @@ fn replay(
     names: &mut [u8],
     payloads: &mut [u8],
     entries: &mut [u8],
+    largest: &mut [u8],
     table: &mut [u8],
 ) {
-    let answer = multi_record_log::replay(log, scratch, names, payloads, entries, table);
+    let answer = multi_record_log::replay(log, scratch, names, payloads, entries, largest, table);
     replayed(answer, table_word(table, 0));
     let ReplayAnswer::Replayed {
         lost: _,
@@ -38,10 +39,17 @@ fn before_replay(kind: u8) {
     }
 }
 
-fn after_replay(kind: u8, names: &[u8], payloads: &[u8], entries: &[u8], table: &[u8]) {
+fn after_replay(
+    kind: u8,
+    names: &[u8],
+    payloads: &[u8],
+    entries: &[u8],
+    largest: &[u8],
+    table: &[u8],
+) {
     if kind == REOPEN {
         text(b"\n");
-        show_queues(names, payloads, entries, table);
+        show_queues(names, payloads, entries, largest, table);
     }
 }
 
@@ -53,6 +61,7 @@ pub fn look(
     names: &mut [u8],
     payloads: &mut [u8],
     entries: &mut [u8],
+    largest: &mut [u8],
     table: &mut [u8],
     kind: u8,
 ) {
@@ -61,6 +70,6 @@ pub fn look(
         return;
     }
     before_replay(kind);
-    replay(log, at, scratch, names, payloads, entries, table);
-    after_replay(kind, names, payloads, entries, table);
+    replay(log, at, scratch, names, payloads, entries, largest, table);
+    after_replay(kind, names, payloads, entries, largest, table);
 }

@@ -50,11 +50,12 @@ fn tell_target(target: &[u8]) {
 }
 
 // One number that stands for the whole queue memory.
-fn memory_sum(names: &[u8], payloads: &[u8], entries: &[u8], table: &[u8]) -> u32 {
+fn memory_sum(names: &[u8], payloads: &[u8], entries: &[u8], largest: &[u8], table: &[u8]) -> u32 {
     let a = crc32::update_all(0xffff_ffff, names);
     let b = crc32::update_all(a, payloads);
     let c = crc32::update_all(b, entries);
-    crc32::update_all(c, table)
+    let d = crc32::update_all(c, largest);
+    crc32::update_all(d, table)
 }
 
 fn tell_memory(before: u32, after: u32) {
@@ -71,9 +72,10 @@ fn copy_into(
     names: &[u8],
     payloads: &[u8],
     entries: &[u8],
+    largest: &[u8],
     table: &[u8],
 ) {
-    tell_copy(multi_record_log::copy(target, scratch, names, payloads, entries, table));
+    tell_copy(multi_record_log::copy(target, scratch, names, payloads, entries, largest, table));
     tell_target(target);
     sum(b", scratch ", scratch);
 }
@@ -87,6 +89,7 @@ fn copy_within(
     names: &[u8],
     payloads: &[u8],
     entries: &[u8],
+    largest: &[u8],
     table: &[u8],
 ) {
     if target.len() < target_len {
@@ -101,6 +104,7 @@ fn copy_within(
         names,
         payloads,
         entries,
+        largest,
         table,
     );
 }
@@ -111,11 +115,12 @@ fn copy_sized(
     names: &[u8],
     payloads: &[u8],
     entries: &[u8],
+    largest: &[u8],
     table: &[u8],
 ) {
     let mut target = [238u8; 196607];
     let mut scratch = [90u8; 131072];
-    let before = memory_sum(names, payloads, entries, table);
+    let before = memory_sum(names, payloads, entries, largest, table);
     copy_within(
         &mut target,
         &mut scratch,
@@ -124,9 +129,10 @@ fn copy_sized(
         names,
         payloads,
         entries,
+        largest,
         table,
     );
-    tell_memory(before, memory_sum(names, payloads, entries, table));
+    tell_memory(before, memory_sum(names, payloads, entries, largest, table));
 }
 
 fn replay_log(
@@ -134,10 +140,19 @@ fn replay_log(
     names: &mut [u8],
     payloads: &mut [u8],
     entries: &mut [u8],
+    largest: &mut [u8],
     table: &mut [u8],
 ) {
     let mut scratch = [0u8; 131072];
-    tell_replay(multi_record_log::replay(log, &mut scratch, names, payloads, entries, table));
+    tell_replay(multi_record_log::replay(
+        log,
+        &mut scratch,
+        names,
+        payloads,
+        entries,
+        largest,
+        table,
+    ));
 }
 
 // The byte at a place from 1 on; 0 is none.
@@ -154,10 +169,26 @@ fn copy_log(log: &[u8], target_len: usize, scratch_len: usize, place: usize, val
     let mut names = [0u8; 98304];
     let mut payloads = [0u8; 98304];
     let mut entries = [0u8; 24576];
+    let mut largest = [0u8; 8192];
     let mut table = [0u8; 1568];
-    replay_log(log, &mut names, &mut payloads, &mut entries, &mut table);
+    replay_log(
+        log,
+        &mut names,
+        &mut payloads,
+        &mut entries,
+        &mut largest,
+        &mut table,
+    );
     spoil(&mut table, place, value);
-    copy_sized(target_len, scratch_len, &names, &payloads, &entries, &table);
+    copy_sized(
+        target_len,
+        scratch_len,
+        &names,
+        &payloads,
+        &entries,
+        &largest,
+        &table,
+    );
 }
 
 fn length(low: u8, middle: u8, high: u8) -> usize {

@@ -30,6 +30,7 @@ fn say_answer(answer: QuestionAnswer) {
             start,
             length,
         } => say_place(position, start, length),
+        QuestionAnswer::Largest { .. } => text(b" largest"),
         QuestionAnswer::Nothing => text(b" none"),
         QuestionAnswer::Refused(number) => say(b" refused ", number),
     }
@@ -49,6 +50,7 @@ fn ask(
     names: &[u8],
     payloads: &[u8],
     records: [RecordEntry; 4],
+    largest: &[u64],
     table: &[u64],
     name: &[u8],
     lower: Lower,
@@ -59,6 +61,7 @@ fn ask(
         names,
         payloads,
         &records,
+        largest,
         table,
         name,
         lower,
@@ -81,11 +84,13 @@ fn entry(position: u64, length: usize) -> RecordEntry {
 fn ask_of(what: &[u8], name: &[u8], lower: Lower, upper: Upper) {
     let table: [u64; 7] = [1, 1, 3, 11, 1, 0, 6];
     let records = [entry(0, 5), entry(1, 0), entry(5, 6), blank()];
+    let largest: [u64; 4] = [0, 0, 2, 0];
     text(what);
     ask(
         b"a",
         b"helloagain!",
         records,
+        &largest,
         &table,
         name,
         lower,

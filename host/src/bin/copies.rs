@@ -92,8 +92,9 @@ fn copy(target: &[u8], scratch: &[u8], memory: &Memory, tally: &mut Tally) -> Re
 
 /// Memory of the same sizes, whatever it holds.
 fn other(random: &mut Random, memory: &Memory) -> Memory {
-    let Memory { names, payloads, entries, table } = memory;
-    Memory { names: random.bytes(names.len()), payloads: random.bytes(payloads.len()), entries: random.bytes(entries.len()), table: random.bytes(table.len()) }
+    let Memory { names, payloads, entries, largest, table } = memory;
+    let mut any = |bytes: &Vec<u8>| random.bytes(bytes.len());
+    Memory { names: any(names), payloads: any(payloads), entries: any(entries), largest: any(largest), table: any(table) }
 }
 
 /// A copy that was taken: the Rust has the same queues, replay gives them, their copy has the same bytes, and writing goes on at its end.

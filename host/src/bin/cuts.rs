@@ -79,6 +79,7 @@ fn read(log: &[u8], scratch: &mut [u8], expected: &[Reading], tally: &mut Tally)
 fn replayed(list: &List, random: &mut Random, log: Vec<u8>, lost: u64, resumed: u64, machine: &Machine) -> Result<Port, String> {
     let mut memory = Memory { names: random.bytes(list.names), payloads: random.bytes(list.payloads), ..Memory::new(0, 0) };
     random.fill(&mut memory.entries);
+    random.fill(&mut memory.largest);
     random.fill(&mut memory.table);
     let mut port = Port { log, write_position: 0, scratch: random.bytes(list.scratch), memory };
     let bytes = frames::lost_bytes(&port.log);

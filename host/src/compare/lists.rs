@@ -126,10 +126,12 @@ impl Run<'_> {
                 tally.count("questions set aside");
                 return Ok(());
             }
+            same("largest payload", &number(self.port.memory.largest(name)), &Err(refusal.to_string()))?;
             return same("answer of the Rust", &self.rust.last_position(text(name)), &Err(8));
         }
         let queue = &self.machine.queues[name];
         same("answer", &answer, &Ok((queue.start, queue.next)))?;
+        same("largest payload", &number(self.port.memory.largest(name)), &Ok(queue.largest()))?;
         same("last position of the Rust", &self.rust.last_position(text(name)), &Ok(queue.next.checked_sub(1)))
     }
 
@@ -167,6 +169,7 @@ impl Run<'_> {
         let mut random = Random::new(self.list.seed ^ 1);
         let mut memory = Memory { names: random.bytes(self.list.names), payloads: random.bytes(self.list.payloads), ..Memory::new(0, 0) };
         random.fill(&mut memory.entries);
+        random.fill(&mut memory.largest);
         random.fill(&mut memory.table);
         let mut scratch = random.bytes(self.list.scratch);
         let answer = number(port::replay(&self.port.log, &mut scratch, &mut memory));
@@ -233,5 +236,6 @@ pub fn memory_unchanged(memory: &Memory, before: &Memory) -> Checked {
     same_bytes("names after a refusal", &memory.names, &before.names)?;
     same_bytes("payloads after a refusal", &memory.payloads, &before.payloads)?;
     same_bytes("record table after a refusal", &memory.entries, &before.entries)?;
+    same_bytes("further table after a refusal", &memory.largest, &before.largest)?;
     same_bytes("table of queues after a refusal", &memory.table, &before.table)
 }

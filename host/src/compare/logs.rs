@@ -120,6 +120,7 @@ fn replay(case: &Log, folder: &Folder, tally: &mut Tally) -> Checked {
     let mut random = Random::new(case.seed ^ 3);
     let mut memory = Memory { names: random.bytes(case.names), payloads: random.bytes(case.payloads), ..Memory::new(0, 0) };
     random.fill(&mut memory.entries);
+    random.fill(&mut memory.largest);
     random.fill(&mut memory.table);
     let mut port = Port { log: case.log.clone(), write_position: 0, scratch: random.bytes(case.scratch), memory };
     let answer = number(port.replay());

@@ -7,7 +7,7 @@ use crate::frames;
 use crate::layout;
 use crate::machine::{self, question_refusal, Machine, Room};
 use crate::plain::{Bound, Queues, Reader, BLOCK};
-use crate::port::{self, Memory, Port, ENTRIES, TABLE};
+use crate::port::{self, Memory, Port, ENTRIES, LARGEST, TABLE};
 use crate::random::Random;
 
 /// Changed memories from what one list leaves: of tables of other lengths, or changed otherwise.
@@ -27,12 +27,12 @@ pub fn run(list: &List, times: usize, lengths: bool, tally: &mut Tally) -> Check
 
 /// What is counted for memory that is not arranged, by the first of LAYOUT's conditions that fails.
 #[rustfmt::skip]
-const AGAINST: [&str; 13] = [
+const AGAINST: [&str; 15] = [
     "against 1", "against 2", "against 3", "against 4", "against 5", "against 6", "against 7", "against 8", "against 9", "against 10", "against 11", "against 12",
-    "against 13",
+    "against 13", "against 14", "against 15",
 ];
 
-/// Gives one of the tables, or both, another length; what it gains holds any bytes.
+/// Gives some of the tables another length; what they gain holds any bytes.
 fn lengthen(random: &mut Random, port: &mut Port) -> &'static str {
     let resize = |random: &mut Random, table: &mut Vec<u8>, len: usize| {
         table.truncate(len);
@@ -49,6 +49,12 @@ fn lengthen(random: &mut Random, port: &mut Port) -> &'static str {
         let any = random.below(2 * ENTRIES);
         let len = *random.pick(&[0, 23, 24, ENTRIES - 24, ENTRIES - 1, ENTRIES + 1, ENTRIES + 24, 48_000, any, any]);
         resize(random, &mut port.memory.entries, len);
+    }
+    if random.once_in(2) {
+        let records = layout::entries(&port.memory);
+        let any = random.below(2 * LARGEST);
+        let len = *random.pick(&[0, 8 * records, (8 * records).saturating_sub(1), (8 * records).saturating_sub(8), 8 * records + 8, LARGEST - 8, LARGEST + 8, any]);
+        resize(random, &mut port.memory.largest, len);
     }
     "length of a table"
 }
@@ -138,17 +144,20 @@ fn question(random: &mut Random, memory: &Memory, queues: &Queues, arranged: boo
     let lower = *random.pick(&[Bound::None, Bound::With(3), Bound::Without(1)]);
     let found = number(memory.record(name, lower, Bound::None)).map(|found| found.map(|(position, payload)| (position, payload.to_vec())));
     let positions = number(memory.positions(name));
+    let largest = number(memory.largest(name));
     memory_unchanged(memory, &before)?;
     match refusal {
         Some(refusal) => {
             tally.refusal(refusal);
             same("range", &found, &Err(refusal.to_string()))?;
-            same("positions", &positions, &Err(refusal.to_string()))
+            same("positions", &positions, &Err(refusal.to_string()))?;
+            same("largest payload", &largest, &Err(refusal.to_string()))
         }
         None => {
             let queue = &queues[name];
             same("range", &found, &Ok(queue.first(lower, Bound::None).cloned()))?;
-            same("positions", &positions, &Ok((queue.start, queue.next)))
+            same("positions", &positions, &Ok((queue.start, queue.next)))?;
+            same("largest payload", &largest, &Ok(queue.largest()))
         }
     }
 }
@@ -176,8 +185,8 @@ fn reader(random: &mut Random, port: &mut Port, tally: &mut Tally) -> Checked {
     same("reader", &reader, &plain)
 }
 
-/// "Replay starts from no queues whatever the queue memory holds, so it never meets 6." "What open or a call left, lent again unchanged, always is" arranged: looked
-/// at after it, and a question on it is never 6.
+/// Replay starts from no queues whatever the queue memory and the further table hold, and meets 6 exactly where that table is short. "What open or a call left, lent
+/// again unchanged, always is" arranged: looked at after it, and a question on it is never 6.
 fn replay(port: &mut Port, tally: &mut Tally) -> Checked {
     let before = port.clone();
     let expected = machine::replay_log(&port.log, &room(port));
@@ -188,6 +197,12 @@ fn replay(port: &mut Port, tally: &mut Tally) -> Checked {
         Err(1) => {
             tally.refusal(1);
             same("replay", &answer, &Err("1".to_string()))?;
+            return unchanged(port, &before);
+        }
+        _ if layout::short(&before.memory) => {
+            tally.refusal(6);
+            tally.count("replays with a short further table");
+            same("replay", &answer, &Err("6".to_string()))?;
             return unchanged(port, &before);
         }
         Err(refusal) => {

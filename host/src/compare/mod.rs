@@ -72,12 +72,16 @@ pub fn zero(what: &str, bytes: &[u8]) -> Checked {
     }
 }
 
-/// Memory that must be arranged and mean these queues.
+/// Memory that must be arranged and mean these queues; asked for the largest payload of each, and of none other.
 pub fn means(what: &str, memory: &Memory, queues: &Queues) -> Checked {
     if let Some(condition) = layout::fails(memory) {
         return Err(format!("{what}: memory left against condition {condition}"));
     }
-    same(what, &layout::meaning(memory), queues)
+    same(what, &layout::meaning(memory), queues)?;
+    for (name, queue) in queues {
+        same(&format!("{what}: largest payload of {name:?}"), &number(memory.largest(name)), &Ok(queue.largest()))?;
+    }
+    Ok(())
 }
 
 /// A refusal by its number.

@@ -19,6 +19,9 @@ enum-known-answer-2 c = search needs
 enum-known-answer-3 : tie.Need-enum-known-answer-3
 enum-known-answer-3 c = search needs
 
+enum-known-answer-4 : tie.Need-enum-known-answer-4
+enum-known-answer-4 c = search needs
+
 number-told-requires : tie.Need-number-told-requires
 number-told-requires c κs = search needs
 
@@ -35,7 +38,11 @@ unfolding tellRange
 returns-3 c = sym (ap tellRange (c .before .answer2 .given .1))
 
 returns-4 : tie.Need-returns-4
-returns-4 c = range-refused _ _ _ (c .before .before .answer3 .given .1) (c .number-told .ensures)
+unfolding tellRange
+returns-4 c = sym (ap tellRange (c .before .answer3 .given .1))
+
+returns-5 : tie.Need-returns-5
+returns-5 c = range-refused _ _ _ (c .before .before .answer4 .given .1) (c .number-told .ensures)
 
 pub tell-range-spec : {M : Type 1} → statement M
 tell-range-spec =
@@ -45,8 +52,10 @@ tell-range-spec =
     enum-told
     enum-known-answer-2
     enum-known-answer-3
+    enum-known-answer-4
     number-told-requires
     returns
     returns-2
     returns-3
-    returns-4)
+    returns-4
+    returns-5)

@@ -7,10 +7,10 @@ use Rattle.test_commands.proofs.lines.run_lines.Statement.{statement}
 use Rattle.test_commands.proofs.lines.run_lines.Tie as tie
 
 abbrev Inv-loop : tie.InvT-loop
-Inv-loop log₀ at₀ scratch₀ names₀ payloads₀ entries₀ table₀ list lent₀ from₀ log at scratch names payloads entries table lent from = Unit {0}
+Inv-loop log₀ at₀ scratch₀ names₀ payloads₀ entries₀ largest₀ table₀ list lent₀ from₀ log at scratch names payloads entries largest table lent from = Unit {0}
 
 abbrev μ-loop : tie.MeasureT-loop
-μ-loop log₀ at₀ scratch₀ names₀ payloads₀ entries₀ table₀ list lent₀ from₀ log at scratch names payloads entries table lent from = length list - from
+μ-loop log₀ at₀ scratch₀ names₀ payloads₀ entries₀ largest₀ table₀ list lent₀ from₀ log at scratch names payloads entries largest table lent from = length list - from
 
 all-requires : tie.Need-all-requires Inv-loop μ-loop
 all-requires c κs = search needs

@@ -6,10 +6,10 @@ use Rattle.test_commands.proofs.questions.show_queues.Statement.{statem
 use Rattle.test_commands.proofs.questions.show_queues.Tie as tie
 
 abbrev Inv-loop : tie.InvT-loop
-Inv-loop names payloads entries table start₀ k₀ start k = Unit {0}
+Inv-loop names payloads entries largest table start₀ k₀ start k = Unit {0}
 
 abbrev μ-loop : tie.MeasureT-loop
-μ-loop names payloads entries table start₀ k₀ start k = 64 - k
+μ-loop names payloads entries largest table start₀ k₀ start k = 64 - k
 
 loop-holds : tie.Need-loop-holds Inv-loop μ-loop
 loop-holds c = search needs

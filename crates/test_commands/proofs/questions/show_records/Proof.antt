@@ -5,10 +5,10 @@ use Rattle.test_commands.proofs.questions.show_records.Statement.{state
 use Rattle.test_commands.proofs.questions.show_records.Tie as tie
 
 abbrev Inv-loop : tie.InvT-loop
-Inv-loop names payloads entries table name lower₀ left₀ lower left = Unit {0}
+Inv-loop names payloads entries largest table name lower₀ left₀ lower left = Unit {0}
 
 abbrev μ-loop : tie.MeasureT-loop
-μ-loop names payloads entries table name lower₀ left₀ lower left = left
+μ-loop names payloads entries largest table name lower₀ left₀ lower left = left
 
 loop-holds : tie.Need-loop-holds Inv-loop μ-loop
 loop-holds c = search needs
