@@ -19,12 +19,15 @@ use Rattle.queues.proofs.Both.{never}
 use Rattle.calls.specs.Refusals.{refuseIf, firstRefusal, logRefused}
 use Rattle.calls.specs.Replay.{Outcome, refused, left, replayOf}
 use Rattle.calls.proofs.Chain.{or-left, or-right}
+use Rattle.contracts.specs.Contracts.{replayLent}
 use Rattle.copy_records.specs.Copy.{CopyLent, copyEncoded, copyEnd, anyLonger, copyTooLong, copyRefusals, copyRefusal, copied, copiedBy, copyOf, CopyResult}
 use Rattle.copy_records.proofs.Left.{copy-done, copy-place}
 use Rattle.abi_entries.specs.Packed.{roomIn, unpacked}
 use Rattle.abi_entries.proofs.Laws.{length-unpacked}
 use Rattle.abi_queues.specs.Words.{wordsIn, words}
 use Rattle.abi_queues.proofs.Laws.{length-words}
+use Rattle.abi_largest.specs.Numbers.{numbersIn, numbers}
+use Rattle.abi_largest.proofs.Numbers.{length-numbers}
 use Rattle.abi_call.specs.OnBytes.{memoryBytes}
 use Rattle.abi_tables.specs.Tables.{memoryIn}
 use Rattle.readout_text.specs.Card.{readoutScratch, readoutRoom, notSized}
@@ -33,6 +36,7 @@ use Rattle.cutdown_card.specs.declared.Cutdown.the-variants.{Written, Re
 use Rattle.cutdown_card.specs.Cutdown.{Cut, cutRefused, cutTo, lentFor, cutBy, cutInto, blankCard, cutDown, freshCard, shortFor, answeredBy, cutAnswer, writtenBy, cutLeft, CutTyped, CutKept}
 use Rattle.cutdown_card.specs.Kept.{intoBy, Into, CutIntoKept, CutSizedKept}
 use Rattle.cutdown_card.specs.Claims.{CutdownHasRoom}
+use Rattle.cutdown_card.proofs.Into.{outcome-long}
 
 -- ---- the memory
 
@@ -47,17 +51,24 @@ words-long : (t : List ℕ) → length t ≡ 1568 → length (words t) ≡ 196
 unfolding wordsIn
 words-long t e = length-words t ∙ ap (λ (n : ℕ). min (n / 8) 196) e
 
-room-is : (ns ps es t : List ℕ) → length ns ≡ 32768 → length ps ≡ 32768 → length es ≡ 24576 → length t ≡ 1568 → capacities (memoryIn (memoryBytes ns ps es t)) ≡ readoutRoom
+numbers-long : (ks : List ℕ) → length ks ≡ 8192 → length (numbers ks) ≡ 1024
+unfolding numbersIn
+numbers-long ks e = length-numbers ks ∙ ap (λ (n : ℕ). min (n / 8) 1024) e
+
+room-is : (ns ps es ks t : List ℕ) → length ns ≡ 32768 → length ps ≡ 32768 → length es ≡ 24576 → length t ≡ 1568 → capacities (memoryIn (memoryBytes ns ps es ks t)) ≡ readoutRoom
 unfolding capacities queueRoom atMost64 room-for
-room-is ns ps es t a b c d =
+room-is ns ps es ks t a b c d =
     ap (λ (k : ℕ). room-for k (length ns) (length (unpacked es)) (length ps)) (words-long t d) ∙ ap (λ (k : ℕ). room-for 196 k (length (unpacked es)) (length ps)) a
     ∙ ap (λ (k : ℕ). room-for 196 32768 k (length ps)) (entries-long es c) ∙ ap (λ (k : ℕ). room-for 196 32768 1024 k) b
 
-pub sized-left : (card scratch ns ps es t target : List ℕ) (r : Cutdown) (target′ : List ℕ) → length scratch ≡ 65536 → length ns ≡ 32768 → length ps ≡ 32768 → length es ≡ 24576
-    → length t ≡ 1568 → CutIntoKept card scratch (memoryBytes ns ps es t) target r target′ → CutSizedKept card target r target′
-sized-left card scratch ns ps es t target r target′ s a b c d w =
+pub sized-left : (card scratch ns ps es ks t target : List ℕ) (r : Cutdown) (target′ : List ℕ) → length scratch ≡ 65536 → length ns ≡ 32768 → length ps ≡ 32768 → length es ≡ 24576
+    → length ks ≡ 8192 → length t ≡ 1568 → CutIntoKept card scratch (memoryBytes ns ps es ks t) target r target′ → CutSizedKept card target r target′
+sized-left card scratch ns ps es ks t target r target′ s a b c k d w =
+    let long : length (unpacked es) ≤ length (numbers ks) = omega (arith, entries-long es c, numbers-long ks k) in
     subst (λ (n : ℕ). Into (replayOf card readoutRoom n) n target r target′) s
-    (subst (λ (x : Capacities). Into (replayOf card x (length scratch)) (length scratch) target r target′) (room-is ns ps es t a b c d) w)
+    (subst (λ (o : Outcome). Into o (length scratch) target r target′)
+    (outcome-long card (length scratch) (memoryIn (memoryBytes ns ps es ks t)) (numbers ks) long
+    ∙ ap (λ (x : Capacities). replayOf card x (length scratch)) (room-is ns ps es ks t a b c d)) w)
 
 -- ---- the target
 

@@ -5,11 +5,12 @@ use mathlib.Core.Path.{_≡_}
 use mathlib.Core.List.{List}
 use Prim.Native.Nat.{ℕ}
 use lib.ListN.{length}
-use Rattle.queues.specs.Layout.{capacities}
 use Rattle.calls.specs.Replay.{Outcome, replayOf}
+use Rattle.contracts.specs.Contracts.{replayLent}
 use Rattle.copy_records.specs.Copy.{copied}
 use Rattle.copy_write.specs.declared.CopyAnswer.{CopyAnswer}
 use Rattle.copy_write.specs.declared.CopyAnswer.the-variants.{Copied as copyDone, Refused as copyRefused}
+use Rattle.abi_largest.specs.Numbers.{numbers}
 use Rattle.abi_call.specs.OnBytes.{MemoryBytes}
 use Rattle.abi_tables.specs.Tables.{memoryIn}
 use Rattle.readout_text.specs.Card.{readoutScratch, readoutRoom}
@@ -32,8 +33,9 @@ pub record Into (o : Outcome) (limit : ℕ) (target : List ℕ) (r : Cutdown) (t
   pub answer : r ≡ answeredBy (length target) (cutInto target limit o)
   pub target-left : target′ ≡ intoBy target (cutInto target limit o)
 
+-- replay with the lent memory: 6 where the further table is shorter than the record table
 abbrev pub CutIntoKept : List ℕ → List ℕ → MemoryBytes → List ℕ → Cutdown → List ℕ → Type 0
-CutIntoKept card scratch m target r target′ = Into (replayOf card (capacities (memoryIn m)) (length scratch)) (length scratch) target r target′
+CutIntoKept card scratch m target r target′ = Into (replayLent card (length scratch) (memoryIn m) (numbers (m .largest)) .outcome) (length scratch) target r target′
 
 abbrev pub CutSizedKept : List ℕ → List ℕ → Cutdown → List ℕ → Type 0
 CutSizedKept card target r target′ = Into (replayOf card readoutRoom readoutScratch) readoutScratch target r target′

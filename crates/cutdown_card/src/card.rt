@@ -18,6 +18,7 @@ fn cut_sized(card: &[u8], target: &mut [u8]) -> Cutdown
     let mut names = [0u8; 32768];
     let mut payloads = [0u8; 32768];
     let mut entries = [0u8; 24576];
+    let mut largest = [0u8; 8192];
     let mut table = [0u8; 1568];
     cut_into(
         card,
@@ -25,6 +26,7 @@ fn cut_sized(card: &[u8], target: &mut [u8]) -> Cutdown
         &mut names,
         &mut payloads,
         &mut entries,
+        &mut largest,
         &mut table,
         target,
     )

@@ -25,20 +25,21 @@ pub fn cut_into(
     names: &mut [u8],
     payloads: &mut [u8],
     entries: &mut [u8],
+    largest: &mut [u8],
     table: &mut [u8],
     target: &mut [u8],
 ) -> Cutdown
     ensures { λ r. ⌜ CutIntoKept
         (now (card .entry))
         (now (scratch .entry))
-        (memoryBytes (now (names .entry)) (now (payloads .entry)) (now (entries .entry)) (now (table .entry)))
+        (memoryBytes (now (names .entry)) (now (payloads .entry)) (now (entries .entry)) (now (largest .entry)) (now (table .entry)))
         (now (target .entry))
         r
         (now (target .exit)) ⌝ }
 {
-    let replayed = replay(card, scratch, names, payloads, entries, table);
+    let replayed = replay(card, scratch, names, payloads, entries, largest, table);
     let ReplayAnswer::Refused(number) = replayed else {
-        let copied = copy(target, scratch, names, payloads, entries, table);
+        let copied = copy(target, scratch, names, payloads, entries, largest, table);
         return written(copied, target.len());
     };
     Cutdown::Refused(number)

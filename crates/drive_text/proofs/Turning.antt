@@ -148,11 +148,12 @@ pub record SameSizes (g₀ g : LentBytes) (out₀ out : List ℕ) : Type 0 where
   pub names : length (g .names) ≡ length (g₀ .names)
   pub payloads : length (g .payloads) ≡ length (g₀ .payloads)
   pub entries : length (g .entries) ≡ length (g₀ .entries)
+  pub largest : length (g .largest) ≡ length (g₀ .largest)
   pub table : length (g .table) ≡ length (g₀ .table)
   pub text : length out ≡ length out₀
 
 pub sizes-none : (g : LentBytes) (out : List ℕ) → SameSizes g g out out
-sizes-none g out = record { log = refl; scratch = refl; names = refl; payloads = refl; entries = refl; table = refl; text = refl }
+sizes-none g out = record { log = refl; scratch = refl; names = refl; payloads = refl; entries = refl; largest = refl; table = refl; text = refl }
 
 pub sizes-on : {g₀ g g′ : LentBytes} {out₀ out out′ : List ℕ} → SameSizes g g′ out out′ → SameSizes g₀ g out₀ out → SameSizes g₀ g′ out₀ out′
 sizes-on v w =
@@ -162,6 +163,7 @@ sizes-on v w =
       names = v .names ∙ w .names;
       payloads = v .payloads ∙ w .payloads;
       entries = v .entries ∙ w .entries;
+      largest = v .largest ∙ w .largest;
       table = v .table ∙ w .table;
       text = v .text ∙ w .text;
     }

@@ -25,6 +25,7 @@ fn drive_zeroed(input: &[u8], log: &mut [u8], out: &mut [u8]) -> usize
     let mut names = [0u8; 32768];
     let mut payloads = [0u8; 32768];
     let mut entries = [0u8; 24576];
+    let mut largest = [0u8; 8192];
     let mut table = [0u8; 1568];
     run(
         input,
@@ -34,6 +35,7 @@ fn drive_zeroed(input: &[u8], log: &mut [u8], out: &mut [u8]) -> usize
         &mut names,
         &mut payloads,
         &mut entries,
+        &mut largest,
         &mut table,
         out,
     )

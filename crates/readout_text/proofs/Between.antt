@@ -19,17 +19,37 @@ use Rattle.calls.specs.Replay.{Outcome, refused, left, replayOf, replayedBy, re
 use Rattle.calls.proofs.Passed.{log-taken}
 use Rattle.calls.proofs.AnyLog.{resumes-in-log}
 use Rattle.read_step.specs.declared.ReplayAnswer.{ReplayAnswer}
-use Rattle.contracts.specs.Contracts.{replayAnswerBy, replayAnswer, ReplayLeft, ReplayKept}
+use Rattle.largest.specs.Table.{keptLeft, keptWhen, tableLeft}
+use Rattle.contracts.specs.Contracts.{replayAnswerBy, replayAnswer, ReplayKept}
+use Rattle.contracts.specs.Turning.{QueuesLeft, QueuesReplayed}
+use Rattle.contracts.proofs.ReplayTable.{taken, queues-kept, table-kept}
 use Rattle.listing.specs.Writing.{written, listed}
 use Rattle.listing.specs.Listing.{listing, refusal}
 use Rattle.listing.specs.Claims.{LogFits}
 use Rattle.listing.proofs.Writes.{length-written}
 use Rattle.readout_text.specs.Card.{textBy, textFor, textIn}
 use Rattle.readout_text.specs.Kept.{numbersOf, closedAnswer, closedText, lentTo, CardKept}
+use Rattle.readout_text.proofs.OwnTable.{blanks-length}
 
 -- what is listed of the memory m where replay answered a
 abbrev pub shownIn : ReplayAnswer → Memory → ℕ → List ℕ
 shownIn a m n = listing (meaning m) (numbersOf a .lost) (numbersOf a .resumed) n
+
+-- ---- the further table, which is as long as the record table
+
+module _ (input scratch scratch′ ns ps ks t : List ℕ) (m′ : Memory) (ks′ : List ℕ) (a : ReplayAnswer) where
+  as-long : 1024 ≤ length ks → length (lentTo ns ps t .entries) ≤ length ks
+  as-long long = omega (arith, long, blanks-length)
+
+  -- replay comes to what it comes to without the table
+  pub as-replayed : 1024 ≤ length ks → ReplayKept input scratch (lentTo ns ps t) ks a scratch′ m′ ks′ → QueuesReplayed input scratch (lentTo ns ps t) a scratch′ m′
+  as-replayed long k = queues-kept input (lentTo ns ps t) ks (λ _. as-long long) scratch scratch′ m′ a ks′ k
+
+  table-left : logRefused input ≡ false → 1024 ≤ length ks → ReplayKept input scratch (lentTo ns ps t) ks a scratch′ m′ ks′ → ks′ ≡ keptLeft ks m′
+  unfolding keptWhen
+  table-left legal long k =
+      let e : ks′ ≡ tableLeft (taken input) ks m′ = k .largest-left ∙ sym (table-kept input (lentTo ns ps t) ks (λ _. as-long long) scratch scratch′ m′ a (as-replayed long k) .largest-left) in
+      e ∙ ap (λ (b : Bool). tableLeft (cond b 0 1) ks m′) legal
 
 -- ---- what the listing asks
 
@@ -38,7 +58,7 @@ unfolding numbersOf replayAnswer replayAnswerBy replayedBy
 told-inside (refused k) lost bytes p n h = omega arith
 told-inside (left qs) lost bytes p n h = h
 
-module _ (log scratch scratch′ : List ℕ) (m m′ : Memory) (a : ReplayAnswer) (legal : logRefused log ≡ false) (w : ReplayKept log scratch m a scratch′ m′) where
+module _ (log scratch scratch′ : List ℕ) (m m′ : Memory) (a : ReplayAnswer) (legal : logRefused log ≡ false) (w : QueuesReplayed log scratch m a scratch′ m′) where
   abbrev given : Outcome
   given = replayOf log (capacities m) (length scratch)
 
@@ -52,7 +72,7 @@ module _ (log scratch scratch′ : List ℕ) (m m′ : Memory) (a : ReplayAnswer
   place-in = resume log (length scratch)
 
   pub leaves : Leaves m m′ (outcomeQueues given)
-  leaves = subst (λ (b : Bool). ReplayLeft b m m′ (outcomeQueues given)) legal (w .memory-left)
+  leaves = subst (λ (b : Bool). QueuesLeft b m m′ (outcomeQueues given)) legal (w .memory-left)
 
   pub answers : a ≡ replayAnswer (replayedBy given lost-in bytes-in place-in)
   unfolding replayCall
@@ -93,12 +113,12 @@ zero-scratch : (log s s′ : List ℕ) → logRefused log ≡ false → s′ ≡
 unfolding replayScratch
 zero-scratch log s s′ legal e = subst (λ (b : Bool). s′ ≡ cond b s (zeros (length s))) legal e
 
-pub card-kept : (input scratch ns ps t out : List ℕ) (a : ReplayAnswer) (scratch′ ns′ ps′ : List ℕ) (es′ : List RecordEntry) (t′ : List ℕ) → logRefused input ≡ false
-    → out ≡ zeros (length out) → ReplayKept input scratch (lentTo ns ps t) a scratch′ (memory ns′ ps′ es′ t′)
-    → CardKept input scratch ns ps t out (closedAnswer a (listed (length out) (length (shownIn a (memory ns′ ps′ es′ t′) (length input)))) (length (written out 0 (shownIn a (memory ns′ ps′ es′ t′) (length input)))))
-    scratch′ ns′ ps′ t′ (closedText a (written out 0 (shownIn a (memory ns′ ps′ es′ t′) (length input))))
+pub card-kept : (input scratch ns ps ks t out : List ℕ) (a : ReplayAnswer) (scratch′ ns′ ps′ : List ℕ) (es′ : List RecordEntry) (ks′ t′ : List ℕ) → logRefused input ≡ false
+    → 1024 ≤ length ks → out ≡ zeros (length out) → ReplayKept input scratch (lentTo ns ps t) ks a scratch′ (memory ns′ ps′ es′ t′) ks′
+    → CardKept input scratch ns ps ks t out (closedAnswer a (listed (length out) (length (shownIn a (memory ns′ ps′ es′ t′) (length input)))) (length (written out 0 (shownIn a (memory ns′ ps′ es′ t′) (length input)))))
+    scratch′ ns′ ps′ ks′ t′ (closedText a (written out 0 (shownIn a (memory ns′ ps′ es′ t′) (length input))))
 unfolding textIn replayCall
-card-kept input scratch ns ps t out a scratch′ ns′ ps′ es′ t′ legal clear w =
+card-kept input scratch ns ps ks t out a scratch′ ns′ ps′ es′ ks′ t′ legal long clear k =
     let m : Memory = lentTo ns ps t in
     let m′ : Memory = memory ns′ ps′ es′ t′ in
     let o : Outcome = replayOf input (capacities m) (length scratch) in
@@ -106,6 +126,7 @@ card-kept input scratch ns ps t out a scratch′ ns′ ps′ es′ t′ legal cl
     let bytes : ℕ = lostBytes input (length scratch) in
     let p : ℕ = resume input (length scratch) in
     let n : ℕ = length input in
+    let w : QueuesReplayed input scratch m a scratch′ m′ = as-replayed input scratch scratch′ ns ps ks t m′ ks′ a long k in
     let e : a ≡ replayAnswer (replayedBy o lost bytes p) = answers input scratch scratch′ m m′ a legal w in
     let l : Leaves m m′ (outcomeQueues o) = leaves input scratch scratch′ m m′ a legal w in
     record {
@@ -116,4 +137,5 @@ card-kept input scratch ns ps t out a scratch′ ns′ ps′ es′ t′ legal cl
       scratch-left = zero-scratch input scratch scratch′ legal (w .scratch-left);
       entries = es′;
       memory-left = l;
+      largest-left = table-left input scratch scratch′ ns ps ks t m′ ks′ a legal long k;
     }

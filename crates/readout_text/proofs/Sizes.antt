@@ -60,10 +60,10 @@ text-is : (input scratch ns ps t : List ℕ) → length scratch ≡ 65536 → le
 unfolding sizedText
 text-is input scratch ns ps t s a b c = ap₂ (λ (x : Capacities) (k : ℕ). textIn input x k) (room-is ns ps t a b c) s
 
-pub sized-left : (input scratch ns ps t out : List ℕ) (r : Listed) (scratch′ ns′ ps′ t′ out′ : List ℕ) → length scratch ≡ 65536 → length ns ≡ 32768 → length ps ≡ 32768 → length t ≡ 196
-    → out ≡ zeros (length out) → CardKept input scratch ns ps t out r scratch′ ns′ ps′ t′ out′
+pub sized-left : (input scratch ns ps ks t out : List ℕ) (r : Listed) (scratch′ ns′ ps′ ks′ t′ out′ : List ℕ) → length scratch ≡ 65536 → length ns ≡ 32768 → length ps ≡ 32768 → length t ≡ 196
+    → out ≡ zeros (length out) → CardKept input scratch ns ps ks t out r scratch′ ns′ ps′ ks′ t′ out′
     → (r ≡ listed (length out) (length (sizedText input))) × (out′ ≡ written (zeros (length out)) 0 (sizedText input))
-sized-left input scratch ns ps t out r scratch′ ns′ ps′ t′ out′ s a b c clear w =
+sized-left input scratch ns ps ks t out r scratch′ ns′ ps′ ks′ t′ out′ s a b c clear w =
     let e : textIn input (capacities (lentTo ns ps t)) (length scratch) ≡ sizedText input = text-is input scratch ns ps t s a b c in (
       w .answer ∙ ap (λ (x : List ℕ). listed (length out) (length x)) e,
       w .text-left ∙ ap₂ (λ (o x : List ℕ). written o 0 x) clear e,

@@ -9,6 +9,7 @@ use Rattle.slices.specs.Bytes.{zeros}
 use Rattle.queues.specs.declared.RecordEntry.{RecordEntry}
 use Rattle.queues.specs.Layout.{Memory, memory, capacities, blank, Leaves}
 use Rattle.calls.specs.Replay.{replayOf, outcomeQueues}
+use Rattle.largest.specs.Table.{keptLeft}
 use Rattle.read_step.specs.declared.ReplayAnswer.{ReplayAnswer}
 use Rattle.read_step.specs.declared.ReplayAnswer.the-variants.{Replayed as replayed, Refused as replayRefused}
 use Rattle.listing.specs.declared.Listed.{Listed}
@@ -40,10 +41,11 @@ abbrev pub lentTo : List ℕ → List ℕ → List ℕ → Memory
 lentTo ns ps t = memory ns ps blanks t
 
 -- Replay and the listing: the text is the one for what the lent memory can hold. The scratch is zero; the queue memory, with some record table, is arranged and
--- means the queues that the log's records give.
-pub record CardKept (input scratch ns ps t out : List ℕ) (r : Listed) (scratch′ ns′ ps′ t′ out′ : List ℕ) : Type 0 where
+-- means the queues that the log's records give; the further table has the numbers that its held entries give.
+pub record CardKept (input scratch ns ps ks t out : List ℕ) (r : Listed) (scratch′ ns′ ps′ ks′ t′ out′ : List ℕ) : Type 0 where
   pub answer : r ≡ listed (length out) (length (textIn input (capacities (lentTo ns ps t)) (length scratch)))
   pub text-left : out′ ≡ written out 0 (textIn input (capacities (lentTo ns ps t)) (length scratch))
   pub scratch-left : scratch′ ≡ zeros (length scratch)
   pub entries : List RecordEntry
   pub memory-left : Leaves (lentTo ns ps t) (memory ns′ ps′ entries t′) (outcomeQueues (replayOf input (capacities (lentTo ns ps t)) (length scratch)))
+  pub largest-left : ks′ ≡ keptLeft ks (memory ns′ ps′ entries t′)

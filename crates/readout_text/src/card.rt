@@ -26,12 +26,14 @@ fn list_sized(input: &[u8], out: &mut [u8]) -> Listed
     let mut scratch = [0u8; 65536];
     let mut names = [0u8; 32768];
     let mut payloads = [0u8; 32768];
+    let mut largest = [0u64; 1024];
     let mut table = [0u64; 196];
     list_replayed(
         input,
         &mut scratch,
         &mut names,
         &mut payloads,
+        &mut largest,
         &mut table,
         out,
     )

@@ -38,14 +38,14 @@ same-length-5 c = search needs
 same-length-6 : tie.Need-same-length-6
 same-length-6 c = search needs
 
-returns : tie.Need-returns
-returns c =
-    let y = c .before .before .before .before .before .before .before .before .before .before .before .before .before .before .before .before .before .before .before .before .before .before .before .before in
-    let a = c .before .before .before .before .before .before .before .before .before .before .before .before .before .before .before .before .before .before .before .before .before .before .before .before .before .before .before .before .before .before .before .before .before .before .before .before .before .args in
-    copied-as _ _ _ _ _ _ (y .replay .ensures .kept) (a .target .now) _ _ _ (c .before .before .before .before .before .before .before .before .before .before .before .before .enum-told .given .1) _ _ _ (c .before .before .before .before .before .copy .ensures) (search needs) (c .written .ensures)
-
 same-length-7 : tie.Need-same-length-7
 same-length-7 c = search needs
+
+returns : tie.Need-returns
+returns c =
+    let y = c .before .before .before .before .before .before .before .before .before .before .before .before .before .before .before .before .before .before .before .before .before .before .before .before .before .before .before in
+    let a = c .before .before .before .before .before .before .before .before .before .before .before .before .before .before .before .before .before .before .before .before .before .before .before .before .before .before .before .before .before .before .before .before .before .before .before .before .before .before .before .before .before .before .args in
+    copied-as _ _ _ _ _ _ _ _ (y .replay .ensures .kept) (a .target .now) _ _ _ (c .before .before .before .before .before .before .before .before .before .before .before .before .before .enum-told .given .1) _ _ _ (c .before .before .before .before .before .copy .ensures) (search needs) (c .written .ensures)
 
 same-length-8 : tie.Need-same-length-8
 same-length-8 c = search needs
@@ -59,11 +59,17 @@ same-length-10 c = search needs
 same-length-11 : tie.Need-same-length-11
 same-length-11 c = search needs
 
+same-length-12 : tie.Need-same-length-12
+same-length-12 c = search needs
+
+same-length-13 : tie.Need-same-length-13
+same-length-13 c = search needs
+
 returns-2 : tie.Need-returns-2
 returns-2 c =
-    let y = c .before .before .before .before .before .before .before .before .before .before .before .before .before in
-    let a = c .before .before .before .before .before .before .before .before .before .before .before .before .before .before .before .before .before .before .before .before .before .before .before .before .before .before .args in
-    into-refused _ _ _ _ _ _ (y .replay .ensures .kept) (a .target .now) _ (c .before .replayed .given .1)
+    let y = c .before .before .before .before .before .before .before .before .before .before .before .before .before .before .before in
+    let a = c .before .before .before .before .before .before .before .before .before .before .before .before .before .before .before .before .before .before .before .before .before .before .before .before .before .before .before .before .before .before .args in
+    into-refused _ _ _ _ _ _ _ _ (y .replay .ensures .kept) (a .target .now) _ (c .before .replayed .given .1)
 
 pub cut-into-spec : {M : Type 1} → statement M
 cut-into-spec =
@@ -80,10 +86,12 @@ cut-into-spec =
     same-length-4
     same-length-5
     same-length-6
-    returns
     same-length-7
+    returns
     same-length-8
     same-length-9
     same-length-10
     same-length-11
+    same-length-12
+    same-length-13
     returns-2)

@@ -42,9 +42,12 @@ same-length-5 c = search needs
 same-length-6 : tie.Need-same-length-6
 same-length-6 c = search needs
 
+same-length-7 : tie.Need-same-length-7
+same-length-7 c = search needs
+
 returns : tie.Need-returns
 unfolding payloadIn
-returns c = appends (c .before .before .before .before .before .before .before .before .before .before .before .before .before .before .before .before .before .before .before .before .before .before .at-position .ensures) (c .before .before .before .before .before .before .before .before .before .before .before .before .append .ensures)
+returns c = appends (c .before .before .before .before .before .before .before .before .before .before .before .before .before .before .before .before .before .before .before .before .before .before .before .before .before .at-position .ensures) (c .before .before .before .before .before .before .before .before .before .before .before .before .before .before .append .ensures)
 
 pub append-payload-spec : {M : Type 1} → statement M
 append-payload-spec =
@@ -62,4 +65,5 @@ append-payload-spec =
     same-length-4
     same-length-5
     same-length-6
+    same-length-7
     returns)

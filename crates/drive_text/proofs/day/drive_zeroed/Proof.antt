@@ -23,6 +23,9 @@ slice-aggregate-run-4 c = search needs
 slice-aggregate-run-5 : tie.Need-slice-aggregate-run-5
 slice-aggregate-run-5 c = search needs
 
+slice-aggregate-run-6 : tie.Need-slice-aggregate-run-6
+slice-aggregate-run-6 c = search needs
+
 run-requires : tie.Need-run-requires
 run-requires c κs = search needs
 
@@ -33,7 +36,7 @@ same-length-2 : tie.Need-same-length-2
 same-length-2 c = search needs
 
 returns : tie.Need-returns
-returns c = drove (c .before .before .before .before .before .before .before .before .before .before .before .before .before .before .before .before .before .before .before .before .before .pre) (length-replicate {A = ℕ} 65536 0) (length-replicate {A = ℕ} 32768 0) (length-replicate {A = ℕ} 32768 0) (length-replicate {A = ℕ} 24576 0) refl (c .before .before .before .before .before .before .before .before .before .run .ensures)
+returns c = drove (c .before .before .before .before .before .before .before .before .before .before .before .before .before .before .before .before .before .before .before .before .before .before .before .pre) (length-replicate {A = ℕ} 65536 0) (length-replicate {A = ℕ} 32768 0) (length-replicate {A = ℕ} 32768 0) (length-replicate {A = ℕ} 24576 0) (length-replicate {A = ℕ} 8192 0) refl (c .before .before .before .before .before .before .before .before .before .before .run .ensures)
 
 pub drive-zeroed-spec : {M : Type 1} → statement M
 drive-zeroed-spec =
@@ -44,6 +47,7 @@ drive-zeroed-spec =
     slice-aggregate-run-3
     slice-aggregate-run-4
     slice-aggregate-run-5
+    slice-aggregate-run-6
     run-requires
     same-length
     same-length-2
