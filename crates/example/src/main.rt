@@ -99,8 +99,8 @@ fn tell_copy(answer: CopyAnswer) {
     text(b"\n");
 }
 
-// A queue, and two records in it.
-fn write(
+// A queue.
+fn create(
     log: &mut [u8],
     write_position: &mut usize,
     scratch: &mut [u8],
@@ -110,7 +110,6 @@ fn write(
     largest: &mut [u8],
     table: &mut [u8],
 ) {
-    let lens: [u64; 2] = [6, 8];
     let created = multi_record_log::create(
         log,
         write_position,
@@ -123,6 +122,20 @@ fn write(
         b"rings",
     );
     tell_call(b"create", created);
+}
+
+// Two records in it, from position 7 on.
+fn append(
+    log: &mut [u8],
+    write_position: &mut usize,
+    scratch: &mut [u8],
+    names: &mut [u8],
+    payloads: &mut [u8],
+    entries: &mut [u8],
+    largest: &mut [u8],
+    table: &mut [u8],
+) {
+    let lens: [u64; 2] = [6, 8];
     let appended = multi_record_log::append(
         log,
         write_position,
@@ -226,7 +239,17 @@ fn main() {
     let mut entries = [0u8; 192];
     let mut largest = [0u8; 64];
     let mut table = [0u8; 56];
-    write(
+    create(
+        &mut log,
+        &mut write_position,
+        &mut scratch,
+        &mut names,
+        &mut payloads,
+        &mut entries,
+        &mut largest,
+        &mut table,
+    );
+    append(
         &mut log,
         &mut write_position,
         &mut scratch,
