@@ -1,9 +1,9 @@
-//! Calls, answers, records and queues as plain values.
+//! Calls, answers, records and queues as plain values; those that the port's wrapper has are its own.
 
 use std::collections::BTreeMap;
 
-/// The length of a block.
-pub const BLOCK: usize = 32_768;
+pub use mrecordlog_port::{Bound, Corruption, Counts, Reader, Reading, Record, Type, BLOCK};
+
 /// The length of a frame's header.
 pub const HEADER: usize = 7;
 /// The position that no record may take.
@@ -19,58 +19,6 @@ pub struct Queue {
 
 /// Queues by name, in byte order.
 pub type Queues = BTreeMap<Vec<u8>, Queue>;
-
-/// The type of a record: its type byte.
-#[derive(Clone, Copy, Debug, PartialEq, Eq)]
-#[repr(u8)]
-pub enum Type {
-    Truncate = 1,
-    Touch = 2,
-    Delete = 3,
-    Append = 4,
-}
-
-/// A record of the log.
-#[derive(Clone, Debug, PartialEq, Eq)]
-pub struct Record {
-    pub kind: Type,
-    pub position: u64,
-    pub name: Vec<u8>,
-    pub items: Vec<(u64, Vec<u8>)>,
-}
-
-/// Why a read gave no record: the port's kinds 5 to 8.
-#[derive(Clone, Copy, Debug, PartialEq, Eq)]
-#[repr(u64)]
-pub enum Corruption {
-    Checksum = 5,
-    FrameType = 6,
-    Length = 7,
-    Record = 8,
-}
-
-/// The answer of one read.
-#[derive(Clone, Debug, PartialEq, Eq)]
-pub enum Reading {
-    End,
-    Record(Record),
-    Corrupt(Corruption),
-}
-
-/// Where a reader stands.
-#[derive(Clone, Copy, Debug, Default, PartialEq, Eq)]
-pub struct Reader {
-    pub block: usize,
-    pub cursor: usize,
-    pub spoilt: bool,
-}
-
-impl Reader {
-    /// The place in the log where a writer resumes.
-    pub fn place(&self) -> u64 {
-        (self.block * BLOCK + self.cursor) as u64
-    }
-}
 
 /// A call that writes. An append's payloads are one run of bytes and their lengths, which need not agree.
 #[derive(Clone, Debug, PartialEq, Eq)]
@@ -101,13 +49,6 @@ pub fn payloads<'a>(run: &'a [u8], lens: &[u64]) -> Vec<&'a [u8]> {
         .collect()
 }
 
-/// The bytes written, in two counts: frames, headers and data; and the zeros before them (02, "Padding counted by itself").
-#[derive(Clone, Copy, Debug, Default, PartialEq, Eq)]
-pub struct Counts {
-    pub frame: u64,
-    pub padding: u64,
-}
-
 /// What a call answers where it is not refused. The bytes written are two counts, or their sum, which is what the Rust answers.
 #[derive(Clone, Copy, Debug, PartialEq, Eq)]
 pub enum Done<Bytes = Counts> {
@@ -134,14 +75,6 @@ impl Done {
             Done::Appended { last, .. } => Done::Appended { last, bytes },
         }
     }
-}
-
-/// A bound of a range of positions.
-#[derive(Clone, Copy, Debug, PartialEq, Eq)]
-pub enum Bound {
-    None,
-    With(u64),
-    Without(u64),
 }
 
 /// What a replay gives.

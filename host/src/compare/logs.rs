@@ -123,7 +123,7 @@ fn replay(case: &Log, folder: &Folder, tally: &mut Tally) -> Checked {
     random.fill(&mut memory.largest);
     random.fill(&mut memory.table);
     let mut port = Port { log: case.log.clone(), write_position: 0, scratch: random.bytes(case.scratch), memory };
-    let answer = number(port.replay());
+    let answer = number(port::replay_own(&mut port));
     same_bytes("log", &port.log, &case.log)?;
     zero("scratch", &port.scratch)?;
     let expected = machine::replay_log(&case.log, &case.room());
@@ -181,13 +181,13 @@ fn follow(port: &mut Port, rust: &mut Oracle, folder: &Folder, mut machine: Mach
     let arranged = layout::place_arranged(port.write_position, case.log.len());
     if let Some(refusal) = machine.refusal(&call, &case.room(), arranged) {
         tally.refusal(refusal);
-        same("answer of the call behind it", &number(port.call(&call)), &Err(refusal.to_string()))?;
+        same("answer of the call behind it", &number(port::call(port, &call)), &Err(refusal.to_string()))?;
         tally.count("calls set aside");
         return Ok(());
     }
     tally.count("calls");
     let done = machine.feed(&call);
-    same("answer of the call behind it", &number(port.call(&call)), &Ok(done))?;
+    same("answer of the call behind it", &number(port::call(port, &call)), &Ok(done))?;
     same("answer of the Rust's call behind it, the counts' sum", &rust.call(&call), &Ok(done.summed()))?;
     let mut file = vec![0; case.log.len()];
     folder.read(&mut file);
