@@ -78,7 +78,7 @@ fn clock(f: impl FnOnce()) -> f64 {
 
 /// A port with the queue, whose payload memory holds so many bytes.
 fn port_with(size: usize, held: usize) -> Port {
-    let mut port = Port::new(BLOCKS * BLOCK, HEAD + ITEM + size, 64, held * size);
+    let mut port = port::fresh(BLOCKS * BLOCK, HEAD + ITEM + size, 64, held * size);
     port.log.fill(1);
     port.log.fill(0);
     port.create(NAME.as_bytes()).unwrap();
@@ -115,7 +115,7 @@ fn port_calls(size: usize, calls: usize, held: usize) -> (Timed, Timed) {
     let (appending, truncating) = appends(
         calls,
         held,
-        || port.borrow_mut().append(NAME.as_bytes(), None, &payload, &[size as u64]).unwrap().0.unwrap(),
+        || port.borrow_mut().append_run(NAME.as_bytes(), None, &payload, &[size as u64]).unwrap().0.unwrap(),
         |last| {
             port.borrow_mut().truncate(NAME.as_bytes(), last).unwrap();
         },
@@ -150,12 +150,12 @@ fn both(size: usize, calls: usize, held: usize, appending: f64, truncating: f64)
 /// A log of so many blocks, full of appends of 1,000 bytes with a truncate after each 500.
 fn full_log(blocks: usize) -> Vec<u8> {
     let size = 1000;
-    let mut port = Port::new(blocks * BLOCK, HEAD + ITEM + size, 64, 501 * size);
+    let mut port = port::fresh(blocks * BLOCK, HEAD + ITEM + size, 64, 501 * size);
     port.create(NAME.as_bytes()).unwrap();
     let mut payload: Vec<u8> = (0..size).map(|i| (i * 7) as u8).collect();
     for n in 0u64.. {
         payload[..8].copy_from_slice(&n.to_le_bytes());
-        let Ok((last, _)) = port.append(NAME.as_bytes(), None, &payload, &[size as u64]) else { break };
+        let Ok((last, _)) = port.append_run(NAME.as_bytes(), None, &payload, &[size as u64]) else { break };
         if n % 500 == 499 && port.truncate(NAME.as_bytes(), last.unwrap()).is_err() {
             break;
         }
@@ -272,10 +272,10 @@ fn checksums(size: usize) {
 
 /// What crossing the boundary costs: the question for positions on memory with so many records, which unpacks the tables, tests the arrangement and looks a name up.
 fn boundary(held: usize) {
-    let mut port = Port::new(64 * BLOCK, HEAD + ITEM, 64, 0);
+    let mut port = port::fresh(64 * BLOCK, HEAD + ITEM, 64, 0);
     port.create(NAME.as_bytes()).unwrap();
     for _ in 0..held {
-        port.append(NAME.as_bytes(), None, &[], &[0]).unwrap();
+        port.append_run(NAME.as_bytes(), None, &[], &[0]).unwrap();
     }
     let calls = 20_000;
     let round = || {

@@ -132,7 +132,7 @@ fn taken(log: &[u8], end: usize, scratch: usize, queues: &Queues, memory: &Memor
             continue;
         }
         tally.count("calls after");
-        same("answer of a call after", &number(port.call(&call)), &Ok(machine.feed(&call)))?;
+        same("answer of a call after", &number(port::call(&mut port, &call)), &Ok(machine.feed(&call)))?;
     }
     let mut reader = Reader::default();
     let mut own = random.bytes(machine.longest().max(scratch));
@@ -164,7 +164,7 @@ fn run(list: &List, random: &mut Random, folder: &Folder, tally: &mut Tally) -> 
     calls.retain(|call| machine.refusal(call, &list.room(), true).is_none() && { machine.feed(call); true });
     machine = Machine::default();
     for (k, call) in calls.iter().enumerate() {
-        same("answer while writing", &number(port.call(call)), &Ok(machine.feed(call)))?;
+        same("answer while writing", &number(port::call(&mut port, call)), &Ok(machine.feed(call)))?;
         if k + 1 < calls.len() && !random.once_in(5) {
             continue;
         }
@@ -193,9 +193,9 @@ fn run(list: &List, random: &mut Random, folder: &Folder, tally: &mut Tally) -> 
 
 /// Targets of 4,096 blocks, the most that a log may have, and of 4,097.
 fn largest(random: &mut Random, tally: &mut Tally) -> Checked {
-    let mut port = Port::new(2 * BLOCK, 2 * BLOCK, 100, BLOCK);
-    port.call(&Call::Create { name: b"a".to_vec() }).map_err(|_| "a create is refused")?;
-    port.call(&Call::Append { name: b"a".to_vec(), position: Some(7), run: random.bytes(20_000), lens: vec![20_000] }).map_err(|_| "an append is refused")?;
+    let mut port = port::fresh(2 * BLOCK, 2 * BLOCK, 100, BLOCK);
+    port::call(&mut port, &Call::Create { name: b"a".to_vec() }).map_err(|_| "a create is refused")?;
+    port::call(&mut port, &Call::Append { name: b"a".to_vec(), position: Some(7), run: random.bytes(20_000), lens: vec![20_000] }).map_err(|_| "an append is refused")?;
     for (blocks, tail, taken) in [(4096, 0, true), (4096, BLOCK - 1, true), (4097, 0, false)] {
         tally.count("copies of 4,096 or 4,097 blocks");
         let mut target = vec![0xA5; blocks * BLOCK + tail];

@@ -83,7 +83,7 @@ fn replayed(list: &List, random: &mut Random, log: Vec<u8>, lost: u64, resumed: 
     random.fill(&mut memory.table);
     let mut port = Port { log, write_position: 0, scratch: random.bytes(list.scratch), memory };
     let bytes = frames::lost_bytes(&port.log);
-    same("answer of replay", &number(port.replay()), &Ok((lost, bytes, resumed)))?;
+    same("answer of replay", &number(port::replay_own(&mut port)), &Ok((lost, bytes, resumed)))?;
     zero("scratch after replay", &port.scratch)?;
     means("queues of replay", &port.memory, &machine.queues)?;
     port.write_position = resumed as usize;
@@ -96,14 +96,14 @@ fn write_on(port: &mut Port, rust: &mut Oracle, folder: &Folder, list: &List, ma
     let arranged = layout::place_arranged(port.write_position, list.log);
     if let Some(refusal) = machine.refusal(call, &list.room(), arranged) {
         tally.refusal(refusal);
-        same("answer of a call after", &number(port.call(call)), &Err(refusal.to_string()))?;
+        same("answer of a call after", &number(port::call(port, call)), &Err(refusal.to_string()))?;
         if (7..=9).contains(&refusal) {
             same("answer of the Rust to a call after", &rust.call(call), &Err(refusal))?;
         }
         return Ok(());
     }
     let done = machine.feed(call);
-    same("answer of a call after", &number(port.call(call)), &Ok(done))?;
+    same("answer of a call after", &number(port::call(port, call)), &Ok(done))?;
     same("answer of the Rust to a call after, the counts' sum", &rust.call(call), &Ok(done.summed()))?;
     let mut file = vec![0; list.log];
     folder.read(&mut file);
@@ -191,7 +191,7 @@ fn run(list: &List, random: &mut Random, folder: &Folder, tally: &mut Tally) -> 
             continue;
         }
         let (old, before) = (port.log.clone(), machine.clone());
-        same("answer while writing", &number(port.call(&call)), &Ok(machine.feed(&call)))?;
+        same("answer while writing", &number(port::call(&mut port, &call)), &Ok(machine.feed(&call)))?;
         if machine.list.len() == before.list.len() {
             continue;
         }

@@ -8,7 +8,7 @@ use host::compare::shrink::{list_text, shrink, smaller_lists, smaller_logs};
 use host::compare::{bytes_text, hits, lists, logs, memories, Checked, Tally};
 use host::oracle::Folder;
 use host::plain::{Call, BLOCK};
-use host::port::Port;
+use host::port;
 use host::random::Random;
 
 /// How many of each are run.
@@ -161,11 +161,11 @@ fn log_lengths(seed: u64) -> usize {
     let mut kind = Kind::new("log lengths", seed);
     for (log, refused) in [(0, true), (BLOCK - 1, true), (BLOCK, false), (4_096 * BLOCK + BLOCK - 1, false), (4_097 * BLOCK, true)] {
         kind.tally.count("lengths");
-        let mut port = Port::new(log, 100, 10, 10);
+        let mut port = port::fresh(log, 100, 10, 10);
         let before = port.clone();
         let call = Call::Create { name: b"a".to_vec() };
-        let create = port.call(&call).is_err();
-        let replay = port.replay().is_err();
+        let create = port::call(&mut port, &call).is_err();
+        let replay = port::replay_own(&mut port).is_err();
         if (create, replay) != (refused, refused) || (refused && port != before) {
             kind.differs(format!("create refused: {create}, replay refused: {replay}"), format!("log of {log} bytes"));
         }

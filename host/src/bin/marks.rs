@@ -64,7 +64,7 @@ fn list(random: &mut Random, tally: &mut Tally) -> Result<(Port, Machine, Writte
     let log = blocks * BLOCK + tail;
     let scratch = if random.once_in(8) { random.below(40) } else { log };
     let room = Room { log, scratch, names: 4_000, payloads: log, queues: 64, records: ENTRIES / 24 };
-    let mut port = Port::new(log, scratch, room.names, room.payloads);
+    let mut port = port::fresh(log, scratch, room.names, room.payloads);
     let mut machine = Machine::default();
     let mut written = vec![];
     for _ in 0..random.from_to(1, 40) {
@@ -75,7 +75,7 @@ fn list(random: &mut Random, tally: &mut Tally) -> Result<(Port, Machine, Writte
         }
         let name = random.pick(&[&b"a"[..], b"b", b"", b"long name"]).to_vec();
         let call = cases::call(random, &machine, name, log);
-        let answer = number(port.call(&call));
+        let answer = number(port::call(&mut port, &call));
         if let Some(refusal) = machine.refusal(&call, &room, true) {
             tally.refusal(refusal);
             same("answer of a call", &answer, &Err(refusal.to_string()))?;
@@ -140,7 +140,7 @@ fn edges(tally: &mut Tally) -> Checked {
                 if log > 2 * BLOCK && (place != 0 || scratch != 19) {
                     continue;
                 }
-                let mut port = Port { write_position: place, ..Port::new(log, scratch, 0, 0) };
+                let mut port = Port { write_position: place, ..port::fresh(log, scratch, 0, 0) };
                 port.scratch.fill(0xAA);
                 mark(&mut port, Mark { shift: LAST, body: [1, 2, 3, 4, 5, 6, 7, 8] }, &mut vec![], tally)?;
             }

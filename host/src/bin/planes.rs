@@ -5,12 +5,8 @@ use std::hint::black_box;
 use std::process::ExitCode;
 use std::time::Instant;
 
+use host::port::raw::{mrecordlog_from_planes, mrecordlog_to_planes};
 use host::random::Random;
-
-extern "C" {
-    fn mrecordlog_to_planes(payload: *const u8, payload_len: usize, width: u64, target: *mut u8, target_len: usize) -> u64;
-    fn mrecordlog_from_planes(payload: *const u8, payload_len: usize, width: u64, target: *mut u8, target_len: usize) -> u64;
-}
 
 #[derive(Clone, Copy, Debug)]
 enum Way {

@@ -8,15 +8,11 @@ use std::time::Instant;
 
 use host::frames::{checksum, encode, frame_bytes, frames, put};
 use host::plain::{Record, Type};
+use host::port::raw::{mrecordlog_report_feed, mrecordlog_report_mean};
 use host::port::{replay, Memory};
 use host::random::Random;
 
 #[rustfmt::skip]
-extern "C" {
-    fn mrecordlog_report_feed(report: *mut u8, report_len: usize, log: *const u8, log_len: usize) -> u64;
-    fn mrecordlog_report_mean(report: *const u8, report_len: usize, found: *mut u64, whole: *mut u64, remainder: *mut u64, count: *mut u64) -> u64;
-}
-
 const BLOCK: usize = 32_768;
 const HEADER: usize = 7;
 const BLOCKS: usize = 4_096;

@@ -16,7 +16,7 @@ pub fn written(list: &List) -> Result<(Port, Machine), String> {
     let mut machine = Machine::default();
     for call in list.calls() {
         let refusal = machine.refusal(call, &list.room(), true);
-        let answer = number(port.call(call));
+        let answer = number(port::call(&mut port, call));
         let expected = refusal.map_or_else(|| Ok(machine.feed(call)), |refusal| Err(refusal.to_string()));
         same("answer while writing", &answer, &expected)?;
     }

@@ -99,7 +99,7 @@ impl Run<'_> {
     fn range(&mut self, name: &[u8], lower: Bound, upper: Bound, tally: &mut Tally) -> Checked {
         tally.count("questions");
         let before = self.port.memory.clone();
-        let found = number(self.port.memory.record(name, lower, upper)).map(|found| found.map(|(position, payload)| (position, payload.to_vec())));
+        let found = number(self.port.memory.record(name, lower, upper)).map(|found| found.map(|held| (held.position, held.payload.to_vec())));
         memory_unchanged(&self.port.memory, &before)?;
         same("answer with odd kinds", &self.port.memory.range_by(name, odd(lower), odd(upper)), &self.port.memory.range(name, lower, upper))?;
         if let Some(refusal) = question_refusal(&self.machine.queues, name, true) {
@@ -142,7 +142,7 @@ impl Run<'_> {
             for record in queue.records.iter().map(Some).chain([None]).take(40) {
                 tally.count("questions");
                 let found = number(self.port.memory.record(name, lower, Bound::None))?;
-                same("answer", &found, &record.map(|(position, payload)| (*position, &payload[..])))?;
+                same("answer", &found.map(|held| (held.position, held.payload)), &record.map(|(position, payload)| (*position, &payload[..])))?;
                 lower = record.map_or(lower, |record| Bound::Without(record.0));
             }
         }
@@ -153,7 +153,7 @@ impl Run<'_> {
     fn reopen(&mut self, tally: &mut Tally) -> Checked {
         tally.count("replays");
         let state = resumed(&self.log);
-        same("answer of replay", &number(self.port.replay()), &Ok((0, 0, state.place())))?;
+        same("answer of replay", &number(port::replay_own(&mut self.port)), &Ok((0, 0, state.place())))?;
         self.rust = Oracle::open(self.folder).ok_or("the Rust does not open the log")?;
         zero("scratch", &self.port.scratch)?;
         self.port.write_position = state.place() as usize;
@@ -200,7 +200,7 @@ fn call_oddly(port: &mut Port, call: &Call, seed: u64) -> Result<Done, Refused> 
             let named = *Random::new(seed ^ position).pick(&[1, 2, 256, 1 << 32, u64::MAX]);
             port.append_by(name, named, *position, run, lens).map(|(last, bytes)| Done::Appended { last, bytes })
         }
-        _ => port.call(call),
+        _ => port::call(port, call),
     }
 }
 

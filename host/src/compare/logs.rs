@@ -5,7 +5,7 @@ use crate::frames;
 use crate::layout;
 use crate::machine::{self, Machine, Room};
 use crate::oracle::{Folder, LogReader, Oracle};
-use crate::plain::{Call, Queues, Reader, Reading, Type, BLOCK, LAST};
+use crate::plain::{before, Call, Queues, Reader, Reading, Type, BLOCK, LAST};
 use crate::port::{self, Memory, Port, ENTRIES};
 use crate::random::Random;
 
@@ -91,7 +91,7 @@ fn read_from(case: &Log, from: Reader, tally: &mut Tally) -> Checked {
             }
         };
         same("answer", &answer, &Ok(reading.clone()))?;
-        same("answer of the Rust", &rust.read(), &reading.clone().before())?;
+        same("answer of the Rust", &rust.read(), &before(reading.clone()))?;
         same("reader", &reader, &plain)?;
         same("reader of the Rust", &rust.state(), &plain)?;
         same_bytes("record in the scratch", &scratch[..record.len()], &record)?;
@@ -123,7 +123,7 @@ fn replay(case: &Log, folder: &Folder, tally: &mut Tally) -> Checked {
     random.fill(&mut memory.largest);
     random.fill(&mut memory.table);
     let mut port = Port { log: case.log.clone(), write_position: 0, scratch: random.bytes(case.scratch), memory };
-    let answer = number(port.replay());
+    let answer = number(port::replay_own(&mut port));
     same_bytes("log", &port.log, &case.log)?;
     zero("scratch", &port.scratch)?;
     let expected = machine::replay_log(&case.log, &case.room());
@@ -191,13 +191,13 @@ fn follow(port: &mut Port, rust: &mut Oracle, folder: &Folder, mut machine: Mach
     let arranged = layout::place_arranged(port.write_position, case.log.len());
     if let Some(refusal) = machine.refusal(&call, &case.room(), arranged) {
         tally.refusal(refusal);
-        same("answer of the call behind it", &number(port.call(&call)), &Err(refusal.to_string()))?;
+        same("answer of the call behind it", &number(port::call(port, &call)), &Err(refusal.to_string()))?;
         tally.count("calls set aside");
         return Ok(());
     }
     tally.count("calls");
     let done = machine.feed(&call);
-    same("answer of the call behind it", &number(port.call(&call)), &Ok(done))?;
+    same("answer of the call behind it", &number(port::call(port, &call)), &Ok(done))?;
     same("answer of the Rust's call behind it, the counts' sum", &rust.call(&call), &Ok(done.summed()))?;
     let mut file = vec![0; case.log.len()];
     folder.read(&mut file);

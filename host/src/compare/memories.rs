@@ -109,7 +109,7 @@ fn one(random: &mut Random, mut port: Port, name: Vec<u8>, tally: &mut Tally) ->
     let call = cases::call(random, &machine, name, 1_000);
     let before = port.clone();
     let refusal = machine.refusal(&call, &room(&port), arranged);
-    let answer = number(port.call(&call));
+    let answer = number(port::call(&mut port, &call));
     if let Some(refusal) = refusal {
         tally.refusal(refusal);
         same(&format!("answer of {call:?} (condition {fails:?})"), &answer, &Err(refusal.to_string()))?;
@@ -142,7 +142,7 @@ fn question(random: &mut Random, memory: &Memory, queues: &Queues, arranged: boo
     let before = memory.clone();
     let refusal = question_refusal(queues, name, arranged);
     let lower = *random.pick(&[Bound::None, Bound::With(3), Bound::Without(1)]);
-    let found = number(memory.record(name, lower, Bound::None)).map(|found| found.map(|(position, payload)| (position, payload.to_vec())));
+    let found = number(memory.record(name, lower, Bound::None)).map(|found| found.map(|held| (held.position, held.payload.to_vec())));
     let positions = number(memory.positions(name));
     let largest = number(memory.largest(name));
     memory_unchanged(memory, &before)?;
@@ -190,7 +190,7 @@ fn reader(random: &mut Random, port: &mut Port, tally: &mut Tally) -> Checked {
 fn replay(port: &mut Port, tally: &mut Tally) -> Checked {
     let before = port.clone();
     let expected = machine::replay_log(&port.log, &room(port));
-    let answer = number(port.replay());
+    let answer = number(port::replay_own(port));
     same_bytes("log after replay", &port.log, &before.log)?;
     same("bytes behind the tables", &layout::behind(&port.memory), &layout::behind(&before.memory))?;
     let queues = match expected {
