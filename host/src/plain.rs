@@ -21,7 +21,7 @@ pub struct Queue {
 pub type Queues = BTreeMap<Vec<u8>, Queue>;
 
 /// The Rust's answer: "An old desk, and the Rust, give one corruption answer for it and go on."
-pub fn before(reading: Reading) -> Reading {
+pub fn seen_before(reading: Reading) -> Reading {
     match reading {
         Reading::Mark(_) => Reading::Corrupt(Corruption::Record),
         other => other,

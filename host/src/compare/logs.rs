@@ -5,7 +5,7 @@ use crate::frames;
 use crate::layout;
 use crate::machine::{self, Machine, Room};
 use crate::oracle::{Folder, LogReader, Oracle};
-use crate::plain::{before, Call, Queues, Reader, Reading, Type, BLOCK, LAST};
+use crate::plain::{seen_before, Call, Queues, Reader, Reading, Type, BLOCK, LAST};
 use crate::port::{self, Memory, Port, ENTRIES};
 use crate::random::Random;
 
@@ -91,7 +91,7 @@ fn read_from(case: &Log, from: Reader, tally: &mut Tally) -> Checked {
             }
         };
         same("answer", &answer, &Ok(reading.clone()))?;
-        same("answer of the Rust", &rust.read(), &before(reading.clone()))?;
+        same("answer of the Rust", &rust.read(), &seen_before(reading.clone()))?;
         same("reader", &reader, &plain)?;
         same("reader of the Rust", &rust.state(), &plain)?;
         same_bytes("record in the scratch", &scratch[..record.len()], &record)?;
