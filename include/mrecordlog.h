@@ -80,6 +80,13 @@ uint64_t mrecordlog_delete(uint8_t *log, size_t log_len, size_t *write_position,
                            const uint8_t *name, size_t name_len,
                            uint64_t *frame_bytes, uint64_t *padding_bytes);
 
+/* A mark (02, Ticket 11) with its shift number and the desk's clock reading, which is stored as 8 little-endian bytes. It changes no queue and is lent no queue
+ * memory; it is refused by 1, 6 (the write position), 11 and 13. */
+uint64_t mrecordlog_mark(uint8_t *log, size_t log_len, size_t *write_position,
+                         uint8_t *scratch, size_t scratch_len,
+                         uint64_t shift, uint64_t clock,
+                         uint64_t *frame_bytes, uint64_t *padding_bytes);
+
 /* The records of a queue up to and with a position evicted. */
 uint64_t mrecordlog_truncate(uint8_t *log, size_t log_len, size_t *write_position,
                              uint8_t *scratch, size_t scratch_len,
@@ -167,7 +174,8 @@ uint64_t mrecordlog_copy(uint8_t *target, size_t target_len,
 /* One read. The reader is block, cursor and spoilt (0, or any other number for a spoilt block), all 0 when fresh. It moves on in place; a refusal leaves it as it was.
  * kind: 0 end of log; 1 truncate, 2 touch, 3 delete, 4 append (the record's type byte), its position, where its name lies in the scratch, and for an append where its items
  * lie there (8-byte position, 4-byte length, data, one behind the other); 5 wrong checksum, 6 unknown type, 7 length past the block, 8 a record that cannot be decoded:
- * the corruption answers. Values that a kind has no use for are 0. */
+ * the corruption answers; 9 a mark (type byte 5), its shift number as the position, and where its 8 bytes of body lie as items_start and items_len. Values that a kind has
+ * no use for are 0. */
 uint64_t mrecordlog_read(const uint8_t *log, size_t log_len,
                          uint8_t *scratch, size_t scratch_len,
                          size_t *block, size_t *cursor, uint64_t *spoilt,

@@ -2,7 +2,7 @@
 
 use crate::frames;
 use crate::machine::{self, Machine, Room, PAYLOADS};
-use crate::plain::{Bound, Call, Queues, Record, Type, BLOCK, HEADER, LAST};
+use crate::plain::{Bound, Call, Mark, Queues, Record, Type, BLOCK, HEADER, LAST};
 use crate::port::{Memory, ENTRIES, LARGEST, TABLE};
 use crate::random::Random;
 
@@ -388,6 +388,28 @@ fn record_bytes(random: &mut Random, record: &Record) -> Vec<u8> {
     bytes
 }
 
+/// A shift number, and a body.
+pub fn mark(random: &mut Random) -> Mark {
+    let shift = *random.pick(&[0, 1, 7, LAST - 1, LAST]);
+    Mark { shift: if random.once_in(2) { shift } else { random.next() }, body: if random.once_in(4) { [0; 8] } else { random.next().to_le_bytes() } }
+}
+
+/// The bytes of a mark, now and then of another form: type, name length or body.
+fn mark_bytes(random: &mut Random) -> Vec<u8> {
+    let mut bytes = frames::encode_mark(mark(random));
+    match random.below(10) {
+        0 => bytes.truncate(random.below(bytes.len() + 1)),
+        1 => {
+            let more = random.from_to(1, 3);
+            bytes.extend(random.bytes(more));
+        }
+        2 => bytes[0] = random.from_to(0, 8) as u8,
+        3 => bytes[9] = random.from_to(1, 9) as u8,
+        _ => (),
+    }
+    bytes
+}
+
 /// How a hand-made log is put together.
 struct Maker<'a> {
     random: &'a mut Random,
@@ -451,6 +473,9 @@ fn made_log(random: &mut Random, blocks: usize, odd: bool) -> Vec<u8> {
     for _ in 0..count {
         if odd && maker.random.once_in(3) {
             maker.odd_frame();
+        } else if maker.random.once_in(6) {
+            let bytes = mark_bytes(maker.random);
+            maker.put(&bytes);
         } else {
             let record = record(maker.random, &maker.queues);
             let bytes = record_bytes(maker.random, &record);

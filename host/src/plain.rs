@@ -2,7 +2,7 @@
 
 use std::collections::BTreeMap;
 
-pub use mrecordlog_port::{Bound, Corruption, Counts, Reader, Reading, Record, Type, BLOCK};
+pub use mrecordlog_port::{Bound, Corruption, Counts, Mark, Reader, Reading, Record, Type, BLOCK};
 
 /// The length of a frame's header.
 pub const HEADER: usize = 7;
@@ -19,6 +19,14 @@ pub struct Queue {
 
 /// Queues by name, in byte order.
 pub type Queues = BTreeMap<Vec<u8>, Queue>;
+
+/// The Rust's answer: "An old desk, and the Rust, give one corruption answer for it and go on."
+pub fn seen_before(reading: Reading) -> Reading {
+    match reading {
+        Reading::Mark(_) => Reading::Corrupt(Corruption::Record),
+        other => other,
+    }
+}
 
 /// A call that writes. An append's payloads are one run of bytes and their lengths, which need not agree.
 #[derive(Clone, Debug, PartialEq, Eq)]

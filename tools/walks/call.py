@@ -14,7 +14,7 @@ def logs(name, crate, rules, call, more):
 LENT = [('log', 'mut', 'u8'), ('wp', 'ref', 'usize'), ('scratch', 'mut', 'u8'), ('names', 'mut', 'u8'), ('payloads', 'mut', 'u8'), ('entries', 'mut', 'RecordEntry'), ('largest', 'mut', 'u64'), ('table', 'mut', 'u64')]
 LEFT = dict({'log': 'leftBy given call .log', 'wp': 'leftBy given call .place', 'scratch': 'leftBy given call .scratch', 'largest': 'leftBy given call .largest'}, **{x: 'leftBy given call .memory .' + x for x in ('names', 'payloads', 'entries', 'table')})
 
-def call(name, crate, more, asked, log, close, answer, typed, told, kept, closing, uses, typing, k='call'):
+def call(name, crate, more, asked, log, close, answer, typed, told, kept, closing, uses, typing, keeping, k='call'):
     """A call over lent memory: tested, logged, done, closed. k is its name in the walk, not the function's own."""
     return F(name, LENT + more, answer, close.res, {x: t.replace('call', k) for x, t in LEFT.items()}, crate=crate, told=told, post=kept, uses=uses,
              lets=[('given', 'Lent', 'lent log wp scratch names payloads entries largest table'), (k, 'Call', asked), ('plan', 'Plan', 'planAt given ' + k)], typed=typed,
@@ -22,7 +22,7 @@ def call(name, crate, more, asked, log, close, answer, typed, told, kept, closin
                     dict(f=log, **{'with': dict(same('log', 'wp', 'scratch', 'names', 'payloads', 'table', *[x[0] for x in more]), sound=('(arrangedWith %s largest)' % MEMORY, ''), room=('(length entries)', '(room-entries .0)')),
                                    'need': '(λ e. find-asks %s (with-arranged %s largest e))' % (MEMORY, MEMORY), 'is': 'plan-is', 'res': 'plan', 'ends': {'scratch': 'scratchAt given ' + k}}),
                     dict(f=apply, **{'with': dict(same('names', 'payloads', 'entries', 'table', 'scratch'), doing=field('Plan', 'plan', 'plan-is', 6, 'Doing', 'doing')), 'need': '(may-do given %s %s)' % (k, typing), 'is': 'refusal-is'}),
-                    dict(f=keep_when, **{'with': dict(same('entries', 'table', 'largest'), much=field('Plan', 'plan', 'plan-is', 1, 'usize', 'len')), 'need': '(may-keep push-all-means given %s %s)' % (k, typing)}),
+                    dict(f=keep_when, **{'with': dict(same('entries', 'table', 'largest'), much=field('Plan', 'plan', 'plan-is', 1, 'usize', 'len')), 'need': '(may-keep push-all-means given %s)' % keeping}),
                     dict(f=close, **{'with': closing, 'is': 'res-is', 'res': close.res})])
 
 SPECS = '''
@@ -54,7 +54,7 @@ ASKED = [('request', 'plain', 'Request'), NAME] + RUN
 log_call = logs('log_call', 'call_write', R, 'callAsked request name bytes lens', ASKED)
 close_call = F('close_call', [('scratch', 'mut', 'u8'), ('table', 'shr', 'u64'), ('request', 'plain', 'Request'), ('plan', 'plain', 'Plan')], 'Called', 'answered request plan table', {'scratch': 'scratchLeft (plan .refusal) scratch'}, crate='call_write', rules=R)
 one = call('call', 'call', ASKED, 'callAsked request name bytes lens', log_call, close_call, 'Called', [('Plan', 'Pln'), ('Called', 'Cld'), ('Request', 'Rqt')],
-           TOLD, '(call-kept push-all-means given request name bytes lens bytes-are)', same('scratch', 'table', 'request', 'plan'), SPECS, '(typed-asked request name bytes lens bytes-are)', 'asked')
+           TOLD, '(call-kept push-all-means given request name bytes lens bytes-are)', same('scratch', 'table', 'request', 'plan'), SPECS, '(typed-asked request name bytes lens bytes-are)', 'request name bytes lens bytes-are', 'asked')
 one.res = one.calls[4]['res'] = 'answered request plan (leftBy given asked .memory .table)'
 
 FILES = [Rules('CALL', 'call', 'CallRules', 'A call rule for each function of `call_write` that `call` calls, in the form of DoingRules.', [log_call, close_call], SPECS.replace('{Lent, lent}', '{lent}')), Walk('one', one)]

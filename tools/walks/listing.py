@@ -23,12 +23,12 @@ past_queue = F('past_queue', [('row', 'plain', 'Cursor'), ('lines', 'plain', 'Cu
 TEXT = 'queueText names payloads entries table count (cur .passed) which'
 queue_text = writes('queue_text', FOUR + [OUT, CURSOR, COUNT, WHICH], 'Cursor', moved(TEXT, 'wordAt table which 0'), '(cur .at)', TEXT, requires='QueueFits names payloads entries table count (cur .passed) which', path='passes.queue_text')
 held = F('held', [TABLE], 'Held', 'heldIn table', crate='mem_names', path='table.held', rules=C)
-queues_line = writes('queues_line', [OUT, ('queues', 'plain', 'usize')], 'usize', 'behind (length out) 0 (length (numberLine queuesWord queues))', '0', 'numberLine queuesWord queues', path='text.queues_line')
+queues_line = writes('queues_line', [OUT, PLACE, ('queues', 'plain', 'usize')], 'usize', 'behind (length out) place (length (numberLine queuesWord queues))', 'place', 'numberLine queuesWord queues', path='text.queues_line')
 LOG = [('lost', 'plain', 'u64'), ('resumed', 'plain', 'usize'), ('bytes', 'plain', 'usize')]
 end_lines = writes('end_lines', [OUT, PLACE] + LOG, 'Listed', 'listed (length out) (behind (length out) place (length (endLines lost resumed bytes)))', 'place', 'endLines lost resumed bytes', requires='LogFits resumed bytes', path='text.end_lines')
 MEMORY = '(memory names payloads entries table)'; ALL = 'listing (meaning %s) lost resumed bytes' % MEMORY; LISTS = '(arranged %s ≡ true) × LogFits resumed bytes' % MEMORY
 def outside(f): f.rules = O; return f
-list_ = outside(writes('list', [(n, 'shr', t) for n, _, t in FOUR] + LOG + [OUT], 'Listed', 'listed (length out) (length (%s))' % ALL, '0', ALL, requires=LISTS, path='passes.list'))
+list_ = outside(writes('list', [(n, 'shr', t) for n, _, t in FOUR] + LOG + [OUT, PLACE], 'Listed', 'listed (length out) (behind (length out) place (length (%s)))' % ALL, 'place', ALL, requires=LISTS, path='passes.list'))
 refused = outside(writes('refused', [OUT, ('number', 'plain', 'u64')], 'Listed', 'listed (length out) (length (refusal number))', '0', 'refusal number', path='text.refused'))
 USES = '''
 use lib.ListN.{length, getD, take, drop as dropped}
@@ -36,7 +36,7 @@ use Rattle.queues.specs.Layout.{memory, meaning, arranged, blank}
 use Rattle.queues.specs.Changes.{wordAt}
 use Rattle.queues.specs.Access.{heldIn}
 use Rattle.listing.specs.Writing.{written, listed}
-use Rattle.listing.specs.Internal.{behind, cursor, Lists}
+use Rattle.listing.specs.Internal.{behind, cursor, ListsFrom}
 use Rattle.listing.specs.Listing.{queuesWord, numberLine, endLines, listing, refusal}
 use Rattle.listing.specs.Claims.{LogFits}
 use Rattle.listing.specs.Passes.{counted, countTo, entryLine, rowLine, RowLine, linesTo, queueText, queuesTo, recordsAt, queuesAt}
@@ -81,7 +81,7 @@ queue_text_walk = F('queue_text', FOUR + [OUT, CURSOR, COUNT, WHICH], 'Cursor', 
 of = lambda k, name: field('Held', 'sums', 'sums-is', k, 'usize', name)
 COUNT, QUEUES = of(2, 'records'), of(0, 'queues'); Q = 'names payloads entries table (sums .records)'
 DONE = lambda i: 'listed (length (out-at %s)) (behind (length (out-at %s)) (acc-at %s .at) (length (endLines lost resumed bytes)))' % (i, i, i); WRITTEN = lambda i: 'written (out-at %s) (acc-at %s .at) (endLines lost resumed bytes)' % (i, i)
-queues_loop = counted(dict(local=11, row='Cursor', at='acc-at', zero='(sym (queues-zero (length out₁) at-first %s))' % Q, next='(queues-next %s out₁ at-first (i .0))' % Q),
+queues_loop = counted(dict(local=12, row='Cursor', at='acc-at', zero='(sym (queues-zero (length out₁) at-first %s))' % Q, next='(queues-next %s out₁ at-first (i .0))' % Q),
     [dict(name='out', den='ℕ', at='out-at', zero='(sym (texts-zero %s out₁ at-first))' % Q, next='(texts-next %s out₁ at-first (i .0))' % Q, long='texts-length %s out₁ at-first %%s ∙ len-queues-line-out' % Q)], count='(sums .queues)', below=QUEUES[1], result=('', 'res-is'), aux='''
   from-is : at-first < 2 ^ 64 → IsCursor (cursor at-first 0)
   from-is is = LL.owes Cur.the-type Cur′.the-laws (cursor at-first 0) ((refl, is), ((refl, lit< tt), tt))
@@ -89,12 +89,12 @@ queues_loop = counted(dict(local=11, row='Cursor', at='acc-at', zero='(sym (queu
   zero-is : at-first < 2 ^ 64 → IsCursor (acc-at 0)
   zero-is is = subst IsCursor (sym (queues-zero (length out₁) at-first %s)) (from-is is)
 ''' % Q, more=dict(after=True, start='(0, (zero-le, zero-is first-is))', known=[('sums-is', 'IsHeld sums'), ('first-is', 'at-first < 2 ^ 64'), ('len-queues-line-out', 'length out₁ ≡ length out')]))
-queues_loop['locals'][9] = ('Hld′.lowered sums', '')
-list_walk = F('list', FOUR + LOG + [OUT], 'Listed', DONE('i'), {'out': WRITTEN('i')}, crate='listing', path='passes.list', requires=LISTS, typed=[('Held', 'Hld'), ('Cursor', 'Cur'), ('Listed', 'Lst')], literals=['(typed-Cur (cursor at-first 0) (from-is first-is))'],
-    lets=[('sums', 'Held', 'heldIn table'), ('at-first', 'ℕ', 'behind (length out) 0 (length (numberLine queuesWord (sums .queues)))'), ('out₁', 'List ℕ', 'written out 0 (numberLine queuesWord (sums .queues))'),
+queues_loop['locals'][10] = ('Hld′.lowered sums', '')
+list_walk = F('list', FOUR + LOG + [OUT, PLACE], 'Listed', DONE('i'), {'out': WRITTEN('i')}, crate='listing', path='passes.list', requires=LISTS, typed=[('Held', 'Hld'), ('Cursor', 'Cur'), ('Listed', 'Lst')], literals=['(typed-Cur (cursor at-first 0) (from-is first-is))'],
+    lets=[('sums', 'Held', 'heldIn table'), ('at-first', 'ℕ', 'behind (length out) place (length (numberLine queuesWord (sums .queues)))'), ('out₁', 'List ℕ', 'written out place (numberLine queuesWord (sums .queues))'),
           ('acc-at', 'ℕ → Cursor', 'queuesAt (length out₁) at-first %s i' % Q, 'i'), ('out-at', 'ℕ → List ℕ', 'written out₁ at-first (queuesTo %s i)' % Q, 'i')],
-    post='(subst (λ (z : ℕ). Lists out (%s) (%s) (%s)) (sym at-end) (list-is names payloads entries table lost resumed bytes out (need .0)))' % (ALL, DONE('z'), WRITTEN('z')),
-    calls=[dict(f=held, **{'with': same('table'), 'is': 'sums-is', 'res': 'sums'}), dict(f=queues_line, **{'with': dict(out='out', queues=QUEUES), 'is': 'first-is', 'ends': {'out': 'out₁'}}),
+    post='(subst (λ (z : ℕ). ListsFrom out place (%s) (%s) (%s)) (sym at-end) (list-is names payloads entries table lost resumed bytes out place (need .0)))' % (ALL, DONE('z'), WRITTEN('z')),
+    calls=[dict(f=held, **{'with': same('table'), 'is': 'sums-is', 'res': 'sums'}), dict(f=queues_line, **{'with': dict(same('out', 'place'), queues=QUEUES), 'is': 'first-is', 'ends': {'out': 'out₁'}}),
            dict(f=queue_text, **{'with': dict(same('names', 'payloads', 'entries', 'table', 'out'), cur=SO_FAR, count=COUNT, which=('(i .0)', '(lt-of-le-of-lt (i .1 .0) %s)' % QUEUES[1])), 'need': '(queue-inside %s (sums .queues) (queues-fit %s (need .0)) (i .0) (ltb→lt (i .0) (sums .queues) less))' % (Q, MEMORY), 'is': 'is'}),
            dict(f=end_lines, **{'with': dict(same('out', 'lost', 'resumed', 'bytes'), place=field('Cursor', '(acc-at (i .0))', '(i .1 .1)', 0, 'usize', 'at')), 'need': '(need .1)', 'is': 'res-is', 'res': DONE('(i .0)'), 'ends': {'out': WRITTEN('(i .0)')}})],
     loop=queues_loop, uses=USES + 'use mathlib.Core.Path.{_∙_}\n')

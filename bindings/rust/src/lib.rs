@@ -28,7 +28,7 @@ use std::error::Error;
 use std::fmt;
 
 pub use memory::{copy, replay, Memory, Replayed, ENTRY, NUMBER, TABLE_WORDS};
-pub use reading::{read, read_by, read_numbers, records, Corruption, Reader, Reading, Record, Records, Type};
+pub use reading::{read, read_by, read_numbers, records, Corruption, Mark, Reader, Reading, Record, Records, Type};
 pub use tools::{checksum, from_planes, to_planes, Mean, Report};
 
 /// The length of a block. A log has 1 to 4,096 whole ones; a shorter tail is never touched.
@@ -225,6 +225,21 @@ impl MultiRecordLog {
             (1, _) => Ok((Some(last), counts)),
             _ => Err(Refused::WithValues(0)),
         }
+    }
+
+    /// A shift mark with the desk's clock reading; the bytes written. It changes no queue.
+    pub fn mark(&mut self, shift: u64, clock: u64) -> Result<Counts, Refused> {
+        let (mut frame, mut padding) = (UNSET, UNSET);
+        // Safety: each slice is given by its own pointer and length, and none overlaps another.
+        #[rustfmt::skip]
+        let number = unsafe {
+            raw::mrecordlog_mark(
+                self.log.as_mut_ptr(), self.log.len(), &mut self.write_position, self.scratch.as_mut_ptr(), self.scratch.len(), shift, clock,
+                &mut frame, &mut padding,
+            )
+        };
+        refused(number, &[frame, padding])?;
+        Ok(Counts { frame, padding })
     }
 
     /// The first record of a range of positions of a queue; the next one is the first without this one's position as lower bound.

@@ -19,6 +19,8 @@ extern "C" {
         largest: *mut u8, largest_len: usize, table: *mut u8, table_len: usize,
         name: *const u8, name_len: usize, named: u64, position: u64, run: *const u8, run_len: usize, lens: *const u64, lens_len: usize,
         has_last: *mut u64, last_position: *mut u64, frame_bytes: *mut u64, padding_bytes: *mut u64) -> u64;
+    pub fn mrecordlog_mark(log: *mut u8, log_len: usize, write_position: *mut usize, scratch: *mut u8, scratch_len: usize, shift: u64, clock: u64,
+        frame_bytes: *mut u64, padding_bytes: *mut u64) -> u64;
     pub fn mrecordlog_range(names: *const u8, names_len: usize, payloads: *const u8, payloads_len: usize, entries: *const u8, entries_len: usize,
         largest: *const u8, largest_len: usize, table: *const u8, table_len: usize, name: *const u8, name_len: usize, lower_kind: u64, lower: u64, upper_kind: u64, upper: u64,
         found: *mut u64, position: *mut u64, start: *mut u64, length: *mut u64) -> u64;

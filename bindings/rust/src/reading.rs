@@ -21,6 +21,13 @@ pub struct Record {
     pub items: Vec<(u64, Vec<u8>)>,
 }
 
+/// A shift mark: its number, and the desk's clock reading, carried and not interpreted.
+#[derive(Clone, Copy, Debug, PartialEq, Eq)]
+pub struct Mark {
+    pub shift: u64,
+    pub body: [u8; 8],
+}
+
 /// Why a read gave no record: kinds 5 to 8.
 #[derive(Clone, Copy, Debug, PartialEq, Eq)]
 #[repr(u64)]
@@ -36,6 +43,7 @@ pub enum Corruption {
 pub enum Reading {
     End,
     Record(Record),
+    Mark(Mark),
     Corrupt(Corruption),
 }
 
@@ -94,6 +102,12 @@ pub fn read_by(log: &[u8], scratch: &mut [u8], block: &mut usize, cursor: &mut u
             _ => of(Type::Delete),
         };
     }
+    if kind == 9 {
+        return match (values, part(scratch, items_start, items_len)?.try_into()) {
+            ([_, 0, 0, 11, 8], Ok(body)) => Ok(Reading::Mark(Mark { shift: position, body })),
+            _ => Err(Refused::WithValues(0)),
+        };
+    }
     match kind {
         _ if values != [0; 5] => Err(Refused::WithValues(0)),
         0 => Ok(Reading::End),
@@ -117,7 +131,8 @@ fn items_of(mut body: &[u8]) -> Option<Vec<(u64, Vec<u8>)>> {
     Some(items)
 }
 
-/// The answers of a log's reads up to its end. It ends behind a refusal: 1 for the log's size, or 11 for a record longer than the scratch.
+/// The answers of a log's reads up to its end, none of them [`Reading::End`]. It ends behind a refusal: 1 for the log's size, or 11 for a record longer than the
+/// scratch.
 pub struct Records<'a> {
     log: &'a [u8],
     scratch: Vec<u8>,
@@ -125,25 +140,24 @@ pub struct Records<'a> {
     ended: bool,
 }
 
-/// The records and corruption answers of a log, in order, with a scratch of so many bytes.
+/// The records, marks and corruption answers of a log, in order, with a scratch of so many bytes.
 pub fn records(log: &[u8], scratch: usize) -> Records<'_> {
     Records { log, scratch: vec![0; scratch], reader: Reader::default(), ended: false }
 }
 
 impl Iterator for Records<'_> {
-    type Item = Result<Result<Record, Corruption>, Refused>;
+    type Item = Result<Reading, Refused>;
 
     fn next(&mut self) -> Option<Self::Item> {
         if self.ended {
             return None;
         }
         match read(self.log, &mut self.scratch, &mut self.reader) {
-            Ok(Reading::Record(record)) => Some(Ok(Ok(record))),
-            Ok(Reading::Corrupt(why)) => Some(Ok(Err(why))),
             Ok(Reading::End) => {
                 self.ended = true;
                 None
             }
+            Ok(reading) => Some(Ok(reading)),
             Err(refused) => {
                 self.ended = true;
                 Some(Err(refused))

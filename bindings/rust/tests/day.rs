@@ -1,6 +1,6 @@
 //! The wrapper on logs of its own: no reference is needed.
 
-use mrecordlog_port::{checksum, from_planes, records, to_planes, Bound, Corruption, Counts, Held, MultiRecordLog, Record, Refused, Report, Sizes, Type, BLOCK};
+use mrecordlog_port::{checksum, from_planes, records, to_planes, Bound, Corruption, Counts, Held, Mark, MultiRecordLog, Reading, Record, Refused, Report, Sizes, Type, BLOCK};
 
 fn small() -> Sizes {
     Sizes { records: 8, queues: 2, names: 16, payloads: 64, scratch: 128 }
@@ -63,14 +63,25 @@ fn a_damaged_log() {
     let mut bytes = log.log().to_vec();
     let whole: Vec<_> = records(&bytes, 128).map(Result::unwrap).collect();
     assert_eq!(whole.len(), 3);
-    assert_eq!(whole[0], Ok(Record { kind: Type::Touch, position: 0, name: b"a".to_vec(), items: vec![] }));
+    assert_eq!(whole[0], Reading::Record(Record { kind: Type::Touch, position: 0, name: b"a".to_vec(), items: vec![] }));
     bytes[19 + 7] ^= 1;
     let read: Vec<_> = records(&bytes, 128).map(Result::unwrap).collect();
-    assert_eq!(read, [whole[0].clone(), Err(Corruption::Checksum), whole[2].clone()]);
+    assert_eq!(read, [whole[0].clone(), Reading::Corrupt(Corruption::Checksum), whole[2].clone()]);
     let (opened, replayed) = MultiRecordLog::open(bytes, small()).unwrap();
     assert_eq!(replayed.lost, 1);
     assert_eq!(opened.positions(b"a"), Ok((7, 8)));
     assert_eq!(records(&log.log()[..100], 128).collect::<Vec<_>>(), [Err(Refused::Number(1))]);
+}
+
+#[test]
+fn a_mark() {
+    let mut log = written();
+    assert_eq!(log.mark(u64::MAX, 0x0102), Ok(Counts { frame: 26, padding: 0 }));
+    assert_eq!(log.positions(b"a"), Ok((0, 8)));
+    let last = records(log.log(), 128).last().unwrap();
+    assert_eq!(last, Ok(Reading::Mark(Mark { shift: u64::MAX, body: [2, 1, 0, 0, 0, 0, 0, 0] })));
+    let (opened, replayed) = MultiRecordLog::open(log.log().to_vec(), small()).unwrap();
+    assert_eq!((replayed.lost, opened.write_position), (0, log.write_position));
 }
 
 #[test]

@@ -14,7 +14,7 @@ use Rattle.frame.specs.Internal.{Arranged}
 use Rattle.recordlog.specs.Read.{Answer, whole, corruption, endOfLog, tooLong, Next, nextRecord}
 use Rattle.recordlog.proofs.Forward.{nextRecord-turned}
 use Rattle.record.specs.declared.MultiPlexedRecord.{MultiPlexedRecord}
-use Rattle.record.specs.declared.MultiPlexedRecord.the-variants.{Truncate, Touch, Delete, Append, None}
+use Rattle.record.specs.declared.MultiPlexedRecord.the-variants.{Truncate, Touch, Delete, Append, Mark, None}
 use Rattle.record.specs.Places.{decodedAt}
 use Rattle.queues.proofs.Both.{never}
 use Rattle.calls.specs.Refusals.{readerNotArranged, readRefusals}
@@ -46,6 +46,7 @@ record-not-six (Truncate p a n) e = never (cc)
 record-not-six (Touch p a n) e = never (cc)
 record-not-six (Delete p a n) e = never (cc)
 record-not-six (Append p a n c) e = never (cc)
+record-not-six (Mark p a) e = never (cc)
 record-not-six None e = never (cc)
 
 told-not-six : (x : Answer) → answerTold x ≡ readRefused 6 → ⊥

@@ -15,9 +15,9 @@ use Rattle.queues.specs.Layout.{Memory, meaning, capacities}
 use Rattle.largest.specs.Table.{arrangedWith}
 use Rattle.queues.specs.declared.Lower.{Lower}
 use Rattle.queues.specs.declared.Upper.{Upper}
-use Rattle.calls.specs.State.{State, Call, createCall, deleteCall, truncateCall, appendCall, CallAnswer, Returned}
+use Rattle.calls.specs.State.{State, Call, createCall, deleteCall, truncateCall, appendCall, markCall, CallAnswer, Returned}
 use Rattle.calls.specs.Payloads.{firstPosition, givesEmpty}
-use Rattle.calls.specs.Refusals.{Refusal, firstRefusal, logRefused, stateNotArranged, nextNamed, inputRefusals, writeRefusals, createRefusals, deleteRefusals, truncateRefusals, takingRefusals, appendRefusals, refusalsOf, refusalOf, questionRefusals}
+use Rattle.calls.specs.Refusals.{Refusal, firstRefusal, logRefused, stateNotArranged, nextNamed, inputRefusals, writeRefusals, createRefusals, deleteRefusals, truncateRefusals, takingRefusals, appendRefusals, markRefusals, placeNotArranged, refusalsOf, refusalOf, questionRefusals}
 use Rattle.calls.specs.Claims.{appliesIn, LowestOf}
 use Rattle.calls.specs.Calls.{callOf}
 use Rattle.calls.specs.Questions.{RangeAnswer as RangeNumbers, PositionsAnswer as PositionsNumbers}
@@ -25,7 +25,7 @@ use Rattle.calls.specs.Questions.{questionRefusal, rangeBy, rangeAnswer, positi
 use Rattle.calls.specs.Reading.{readings, lostIn}
 use Rattle.calls.specs.Lost.{lostBytes}
 use Rattle.calls.specs.Replay.{Outcome, refused, left, replayedBy, replayCall, replayOf}
-use Rattle.calls.proofs.Chain.{lowest-first}
+use Rattle.calls.proofs.Chain.{or-right, lowest-first}
 use Rattle.calls.proofs.Passed.{log-taken, state-taken}
 use Rattle.calls.proofs.Done.{call-refused, call-done}
 use Rattle.calls.proofs.Steps.{done-zero}
@@ -40,7 +40,8 @@ use Rattle.contracts.specs.Contracts.{Lent, stateOf, CallKept, largestBy, large
 use Rattle.contracts.specs.Turning.{QueuesReplayed}
 use Rattle.contracts.proofs.ReplayTable.{queues-kept, replay-arranged}
 use Rattle.contracts.proofs.Runs.{call-means}
-use Rattle.claims.specs.Claims.{NeverMeetsSix, CallLeavesArranged, CallWasArranged, ReplayLeavesArranged}
+use Rattle.claims.specs.Claims.{NeverMeetsSix, CallLeavesArranged, CallWasArranged, ReplayLeavesArranged, lentNotArranged}
+use Rattle.contracts.proofs.Demands.{leaves}
 use Rattle.claims.proofs.LogLeft.{call-leaves, left-arranged}
 
 -- ---- a call answers 6 where it applies, and no number below it does
@@ -55,14 +56,24 @@ append-six true s n p run ks = refl
 append-six false s n p run ks = refl
 
 -- 6 stands once in each list
-call-six : (s : State) (k : Call) → appliesIn 6 (refusalsOf s k) ≡ stateNotArranged s
-unfolding appliesIn refusalsOf createRefusals deleteRefusals truncateRefusals appendRefusals inputRefusals writeRefusals
+call-six : (s : State) (k : Call) → appliesIn 6 (refusalsOf s k) ≡ lentNotArranged s k
+unfolding appliesIn refusalsOf createRefusals deleteRefusals truncateRefusals appendRefusals markRefusals inputRefusals writeRefusals lentNotArranged
 call-six s (createCall n) = or-false (stateNotArranged s)
 call-six s (deleteCall n) = or-false (stateNotArranged s)
 call-six s (truncateCall n e) = or-false (stateNotArranged s)
 call-six s (appendCall n a run ks) =
     ap (λ (b : Bool). stateNotArranged s || b) (append-six (givesEmpty a (nextNamed s n) ks) s n (firstPosition a (nextNamed s n)) run ks)
     ∙ or-false (stateNotArranged s)
+call-six s (markCall n body) = or-false (placeNotArranged s)
+
+-- arranged for a call of the others is so for a mark
+lent-arranged : (s : State) (k : Call) → stateNotArranged s ≡ false → lentNotArranged s k ≡ false
+unfolding lentNotArranged stateNotArranged
+lent-arranged s (createCall n) e = e
+lent-arranged s (deleteCall n) e = e
+lent-arranged s (truncateCall n x) e = e
+lent-arranged s (appendCall n a run ks) e = e
+lent-arranged s (markCall n body) e = or-right (not (s .arranged)) (placeNotArranged s) e
 
 question-six : (b : Bool) (qs : List Queue) (n : List ℕ) → appliesIn 6 (questionRefusals b qs n) ≡ not b
 unfolding appliesIn questionRefusals
@@ -140,7 +151,7 @@ never-meets l e =
     record {
       arranged = e;
       calls = λ k a l′ w z.
-          not-given (refusalsOf (stateOf l) k) (lowest-first .calls (stateOf l) k) (call-six (stateOf l) k ∙ e) (sym (call-refusal l l′ k a w) ∙ z);
+          not-given (refusalsOf (stateOf l) k) (lowest-first .calls (stateOf l) k) (call-six (stateOf l) k ∙ lent-arranged (stateOf l) k e) (sym (call-refusal l l′ k a w) ∙ z);
       questions = λ n q a w z.
           not-given (questionRefusals (arrangedWith (l .memory) (l .largest)) (meaning (l .memory)) n) (lowest-first .questions (arrangedWith (l .memory) (l .largest)) (meaning (l .memory)) n)
           (question-six (arrangedWith (l .memory) (l .largest)) (meaning (l .memory)) n ∙ ap not (state-taken (stateOf l) e .arranged)) (question-refusal (l .memory) (l .largest) n q a w z);

@@ -20,8 +20,8 @@ use Rattle.queues.specs.declared.Upper.{Upper}
 use Rattle.queues.specs.Queues.{Queue, held, find}
 use Rattle.queues.specs.Ranges.{allInRange, firstItem, firstOf}
 use Rattle.queues.specs.Layout.{Memory, meaning, capacities}
-use Rattle.calls.specs.State.{Call, CallAnswer, bytesWritten}
-use Rattle.calls.specs.Refusals.{logRefused, stateNotArranged, readerNotArranged}
+use Rattle.calls.specs.State.{State, Call, createCall, deleteCall, truncateCall, appendCall, markCall, CallAnswer, bytesWritten}
+use Rattle.calls.specs.Refusals.{logRefused, placeNotArranged, stateNotArranged, readerNotArranged}
 use Rattle.calls.specs.Reading.{lostIn}
 use Rattle.calls.specs.Lost.{lostBytes}
 use Rattle.calls.specs.Claims.{countedIn}
@@ -54,9 +54,17 @@ pub record NeverMeetsSix (l : Lent) : Type 0 where
 abbrev pub CallLeavesArranged : Type 0
 CallLeavesArranged = (l l′ : Lent) (k : Call) (a : CallAnswer) → CallKept l k a l′ → stateNotArranged (stateOf l) ≡ false → NeverMeetsSix l′
 
+-- what 6 says of what a call was lent; to a mark no queue memory is
+unfoldable pub lentNotArranged : State → Call → Bool
+lentNotArranged s (createCall n) = stateNotArranged s
+lentNotArranged s (deleteCall n) = stateNotArranged s
+lentNotArranged s (truncateCall n e) = stateNotArranged s
+lentNotArranged s (appendCall n a run ks) = stateNotArranged s
+lentNotArranged s (markCall n body) = placeNotArranged s
+
 -- a call that was done, or refused by a number above 6, was lent arranged memory
 abbrev pub CallWasArranged : Type 0
-CallWasArranged = (l l′ : Lent) (k : Call) (a : CallAnswer) → CallKept l k a l′ → (a .refusal ≡ 0) ⊎ (6 < a .refusal) → stateNotArranged (stateOf l) ≡ false
+CallWasArranged = (l l′ : Lent) (k : Call) (a : CallAnswer) → CallKept l k a l′ → (a .refusal ≡ 0) ⊎ (6 < a .refusal) → lentNotArranged (stateOf l) k ≡ false
 
 -- What open left, whatever memory it was lent, with a further table that is long enough, of every log that is not refused 1, damaged ones too; the writer stands at the place that replay answered, which is 0
 -- where it was refused, and any scratch is lent.

@@ -117,6 +117,7 @@ module _ (s s′ : State) (ls : List Listed) (l : Listed) (w : Standing s ls) (v
       size = omega (arith, size, w .short);
       same-length = refl;
       formed = tt;
+      sound = refl;
       same-room = refl;
       replayed = refl;
     };

@@ -6,6 +6,7 @@ use mathlib.Core.List.{List, [], _∷_, _++_, map, append-nil, append-assoc}
 use Prim.Native.Nat.{ℕ, _+_, _*_, _≤_}
 use native.Mathlib.Omega.{arith}
 use lib.ListN.{length, take, drop}
+use Rattle.slices.specs.Put.{put}
 use Rattle.slices.proofs.Put.{length-put}
 use Rattle.frame.specs.Block.{blocks}
 use Rattle.recordlog.specs.Write.{Frame, framesOf, placeAfter, recordBytes}
@@ -17,15 +18,15 @@ use Rattle.record.specs.Record.{Record, encode}
 use Rattle.record.specs.Fits.{WellFormed}
 use Rattle.record.proofs.Codec.{decodes-back}
 use Rattle.queues.specs.Queues.{Queue, Position, Capacities}
-use Rattle.calls.specs.State.{State, Call, createCall, deleteCall, truncateCall, appendCall, Returned}
+use Rattle.calls.specs.State.{State, Call, createCall, deleteCall, truncateCall, appendCall, markCall, Returned}
 use Rattle.calls.specs.Payloads.{firstPosition, givesEmpty}
 use Rattle.calls.specs.Refusals.{nextNamed, refusalsOf, refusalOf}
-use Rattle.calls.specs.Calls.{logged, wrote, createDone, deleteDone, truncateDone, emptyAnswer, appendTaking, appendDone, doneOf, callOf}
+use Rattle.calls.specs.Calls.{logged, wrote, createDone, deleteDone, truncateDone, emptyAnswer, appendTaking, appendDone, marked, markDone, doneOf, callOf}
 use Rattle.calls.specs.Reading.{ReadAnswer, gaveRecord, gaveEnd, ofRecord, answerOf, readings}
 use Rattle.calls.specs.Replay.{replayAnswers, replayRecords, replayOf}
 use Rattle.calls.specs.Machine.{Listed, Machine, Fed, machineCall, machine, recordsOf, NoneLonger}
 use Rattle.calls.specs.Run.{StatesRun}
-use Rattle.calls.proofs.Passed.{create-passed, delete-passed, truncate-passed, AppendPassed, append-passed}
+use Rattle.calls.proofs.Passed.{create-passed, delete-passed, truncate-passed, AppendPassed, append-passed, mark-passed}
 use Rattle.calls.proofs.Done.{call-done}
 use Rattle.calls.proofs.Replaying.{replay-all, replay-corrupt}
 use Rattle.calls.proofs.Answers.{Formed, readings-same, records-given}
@@ -44,9 +45,16 @@ use Rattle.cut_calls.specs.CutRecord.{cutAnswered, keptOf}
 
 -- ---- a call leaves the log as long as it was
 
+put-length : (s : State) (r : Record) → placeAfter (s .place) (encode r) ≤ blocks (s .log) * 32768 → length (put (s .log) (s .place) (recordBytes (s .place) (encode r))) ≡ length (s .log)
+put-length s r h = length-put (s .log) (s .place) (recordBytes (s .place) (encode r)) (omega (arith, length-record (s .place) (encode r)))
+
 logged-length : (s : State) (r : Record) (qs : List Queue) → placeAfter (s .place) (encode r) ≤ blocks (s .log) * 32768 → length (logged s r qs .log) ≡ length (s .log)
 unfolding logged
-logged-length s r qs h = length-put (s .log) (s .place) (recordBytes (s .place) (encode r)) (omega (arith, length-record (s .place) (encode r)))
+logged-length s r qs h = put-length s r h
+
+marked-length : (s : State) (r : Record) → placeAfter (s .place) (encode r) ≤ blocks (s .log) * 32768 → length (marked s r .log) ≡ length (s .log)
+unfolding marked
+marked-length s r h = put-length s r h
 
 append-length : (s : State) (n : List ℕ) (a : Position) (run ks : List ℕ) → AppendPassed s n a run ks → (e : Bool) → givesEmpty a (nextNamed s n) ks ≡ e
     → length (cond e (emptyAnswer s) (appendTaking s n (firstPosition a (nextNamed s n)) run ks) .state .log) ≡ length (s .log)
@@ -55,11 +63,12 @@ append-length s n a run ks p true e = refl
 append-length s n a run ks p false e = logged-length s _ _ (p .taking e .write .in-log)
 
 pub done-length : (s : State) (k : Call) → refusalOf s k ≡ 0 → length (doneOf s k .state .log) ≡ length (s .log)
-unfolding refusalsOf doneOf createDone deleteDone truncateDone appendDone wrote
+unfolding refusalsOf doneOf createDone deleteDone truncateDone appendDone markDone wrote
 done-length s (createCall n) e = logged-length s _ _ (create-passed s n e .write .in-log)
 done-length s (deleteCall n) e = logged-length s _ _ (delete-passed s n e .write .in-log)
 done-length s (truncateCall n x) e = logged-length s _ _ (truncate-passed s n x e .write .in-log)
 done-length s (appendCall n a run ks) e = append-length s n a run ks (append-passed s n a run ks e) (givesEmpty a (nextNamed s n) ks) refl
+done-length s (markCall n body) e = marked-length s _ (mark-passed s n body e .write .in-log)
 
 -- ---- answers
 

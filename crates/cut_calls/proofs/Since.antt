@@ -1,7 +1,7 @@
 -- What holds after every list of calls from a reopened log on.
 -- Assumes nothing.
 use mathlib.Core.Path.{_≡_, refl, sym, ap, ap₂, subst, _∙_}
-use mathlib.Core.Bool.{Bool, cond, not}
+use mathlib.Core.Bool.{Bool, true, cond, not}
 use mathlib.Core.List.{List, [], _∷_, _++_}
 use Prim.Native.Nat.{ℕ, zero, suc, _*_, _≤_}
 use native.Mathlib.Omega.{arith}
@@ -51,6 +51,7 @@ pub record Going (log : List ℕ) (q n : ℕ) (m : Capacities) (qs : List Queue)
   pub size : blocks (s .log) ≡ n
   pub same-length : length (s .log) ≡ length log
   pub formed : Formed (recordsOf ls)
+  pub sound : s .arranged ≡ true
   pub same-room : s .capacities ≡ m
   pub replayed : replayRecords m qs (recordsOf ls) ≡ left (s .queues)
 
@@ -75,6 +76,7 @@ module _ (log : List ℕ) (q n : ℕ) (c : Capacities) (qs₀ : List Queue) (arr
     size = omega (arith, long, g .size);
     same-length = long ∙ g .same-length;
     formed = subst Formed (sym (records-of-append ls (listed s r ∷ []))) (formed-append (recordsOf ls) r (g .formed) f);
+    sound = refl;
     same-room = g .same-room;
     replayed =
         ap (replayRecords c qs₀) (records-of-append ls (listed s r ∷ []))
@@ -109,7 +111,7 @@ module _ (log : List ℕ) (q n : ℕ) (c : Capacities) (qs₀ : List Queue) (arr
   step-by s m w k t zero z =
       subst (λ (i : ℕ). Gone log q n c qs₀ (doneOf s k .state) (cond (not (eqb i 0)) m (machineCall m k))) (sym (done-zero s k))
       (subst (λ (x : Machine). Gone log q n c qs₀ (doneOf s k .state) (machineCall x k)) (sym (w .machine-is))
-      (on-done s (doneOf s k .state) (w .list) (λ ms. machineCall (machineOf s ms) k) (w .going) (taken s (arranged s (w .list) (w .going)) k t z)))
+      (on-done s (doneOf s k .state) (w .list) (λ ms. machineCall (machineOf s ms) k) (w .going) (taken s (arranged s (w .list) (w .going)) (w .going .sound) k t z)))
   step-by s m w k t (suc i) z =
       subst (λ (b : Bool). Gone log q n c qs₀ s (cond (not b) m (machineCall m k))) (sym (ne-eqb (suc i) 0 (λ p. omega arith))) w
 

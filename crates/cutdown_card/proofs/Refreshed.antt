@@ -20,6 +20,7 @@ use Rattle.calls.specs.Reading.{readings, lostIn}
 use Rattle.calls.specs.Lost.{lostBytes}
 use Rattle.calls.specs.Replay.{Outcome, left, replayOf, replayedBy, replayCall}
 use Rattle.calls.specs.Claims.{queuesArranged}
+use Rattle.calls.specs.Desks.{marksIn, listedBy, marksListed}
 use Rattle.calls.proofs.AnyLog.{replayed-arranged}
 use Rattle.calls.proofs.Answers.{Formed}
 use Rattle.lost_bytes.specs.Claims.{Decodes}
@@ -27,9 +28,10 @@ use Rattle.lost_bytes.proofs.Hit.{records-lose-nothing}
 use Rattle.copy_records.specs.Copy.{CopyLent, copyRecords, copyEncoded, copyRefusal, copied, copyOf}
 use Rattle.copy_records.specs.Typed.{QueuesTyped}
 use Rattle.copy_records.proofs.Again.{arranged-ordered}
-use Rattle.copy_records.proofs.Formed.{Shorter}
+use Rattle.copy_records.proofs.Formed.{Shorter, shorter-none}
 use Rattle.copy_records.proofs.Left.{copy-passed, number, encoded, rest, rest-short, room, target-left, formed, states-copy-replays}
-use Rattle.listing.specs.Listing.{listing, refusal}
+use Rattle.copy_records.proofs.NoMarks.{states-copy-lists-none}
+use Rattle.listing.specs.Listing.{shiftLines, listing, refusal}
 use Rattle.readout_text.specs.Card.{textBy, textFor, textIn, readoutScratch, readoutRoom, sizedText, notSized, cardText}
 use Rattle.readout_text.proofs.Sizes.{just-sized}
 use Rattle.cutdown_card.specs.declared.Cutdown.{Cutdown}
@@ -82,13 +84,20 @@ module _ (card : List ℕ) (qs : List Queue) (b : Bytes card) (t : QueuesTyped q
       ∙ records-lose-nothing (number lent taken) readoutScratch (encoded lent taken) (rest lent taken) (rest-short lent taken) (room lent taken) short
       (decoded (copyRecords qs) (formed lent taken (arranged-ordered readoutRoom qs in-room) t))
 
+  -- a copy carries no marks
+  none-marked : marksIn (readings fresh readoutScratch) ≡ []
+  none-marked =
+      ap (λ (log : List ℕ). marksIn (readings log readoutScratch)) (sym (fresh-is card qs readoutScratch taken))
+      ∙ states-copy-lists-none lent taken (arranged-ordered readoutRoom qs in-room) t readoutScratch (shorter-none readoutScratch (copyEncoded qs) short)
+
   pub lists-them : cardText fresh ≡ listing qs 0 (resume fresh readoutScratch) (length fresh)
-  unfolding sizedText textIn textFor textBy replayCall replayedBy
+  unfolding sizedText textIn textFor textBy replayCall replayedBy marksListed listedBy shiftLines
   lists-them =
       let h = sized-long card (was-sized card qs d) in
+      let ms : List ℕ = marksIn (readings fresh readoutScratch) in
       just-sized fresh (omega (arith, long, h .0)) (omega (arith, long, h .1))
-      ∙ ap (λ (o : Outcome). textFor (replayedBy o (lostIn (readings fresh readoutScratch)) (lostBytes fresh readoutScratch) (resume fresh readoutScratch)) (length fresh)) again-is
-      ∙ ap (λ (n : ℕ). listing qs n (resume fresh readoutScratch) (length fresh)) nothing-lost
+      ∙ ap (λ (o : Outcome). textFor (replayedBy o (lostIn (readings fresh readoutScratch)) (lostBytes fresh readoutScratch) (resume fresh readoutScratch)) (listedBy o ms) (length fresh)) again-is
+      ∙ ap₂ (λ (ns : List ℕ) (n : ℕ). shiftLines ns ++ listing qs n (resume fresh readoutScratch) (length fresh)) none-marked nothing-lost
 
   fresh-sized : notSized fresh ≡ false
   fresh-sized =

@@ -1,4 +1,5 @@
 pub mod Drives
+pub mod Unmarked
 pub mod Lists
 pub mod Turns
 pub mod Short

@@ -21,10 +21,10 @@ use Rattle.record.proofs.Encode.{encoded-lengths}
 use Rattle.queues.specs.Queues.{Queue, Position, beforeNext, Found, missing, held, find, recordCount}
 use Rattle.queues.proofs.Sums.{evicted-count}
 use Rattle.queues.proofs.Walks.{found-stands}
-use Rattle.calls.specs.State.{State, Call, createCall, deleteCall, truncateCall, appendCall, CallAnswer}
+use Rattle.calls.specs.State.{State, Call, createCall, deleteCall, truncateCall, appendCall, markCall, CallAnswer}
 use Rattle.calls.specs.Payloads.{itemsAt, givesEmpty, firstPosition}
 use Rattle.calls.specs.Named.{evictedFrom}
-use Rattle.calls.specs.Refusals.{Refusal, refuseIf, firstRefusal, inputRefusals, writeRefusals, createRefusals, deleteRefusals, truncateRefusals, takingRefusals, appendRefusals, refusalsOf, refusalOf, nextNamed, appendRecord}
+use Rattle.calls.specs.Refusals.{Refusal, refuseIf, firstRefusal, inputRefusals, writeRefusals, createRefusals, deleteRefusals, truncateRefusals, takingRefusals, appendRefusals, markRefusals, refusalsOf, refusalOf, nextNamed, appendRecord}
 use Rattle.calls.specs.Calls.{framesFor, wrote, createDone, deleteDone, truncateDone, emptyAnswer, appendTaking, appendDone, doneOf, returnedBy, callOf}
 use Rattle.calls.proofs.Passed.{AppendPassed, append-passed}
 use Rattle.calls.proofs.Steps.{done-zero}
@@ -67,6 +67,7 @@ ShortCall (createCall n) = length n ≤ 8
 ShortCall (deleteCall n) = length n ≤ 8
 ShortCall (truncateCall n e) = length n ≤ 8
 ShortCall (appendCall n a run ks) = (length n ≤ 8) × (ks ≡ 16 ∷ [])
+ShortCall (markCall n body) = ⊥
 
 touch-short : (p : ℕ) (n : List ℕ) → length n ≤ 8 → length (encode (touch p n)) ≤ 47
 unfolding encodedLength lengthFrom
@@ -97,6 +98,7 @@ call-small s (truncateCall n e) h = wrote-small s _ _ _ _ (truncate-short e n h)
 call-small s (appendCall n a run ks) h =
     subst (λ (xs : List ℕ). Small (cond (givesEmpty a (nextNamed s n) xs) (emptyAnswer s) (appendTaking s n (firstPosition a (nextNamed s n)) run xs) .answer)) (sym (h .1))
     (append-small s n (firstPosition a (nextNamed s n)) run (h .0) (givesEmpty a (nextNamed s n) (16 ∷ [])))
+call-small s (markCall n body) h = absurd h
 
 -- ---- numbers
 
@@ -146,7 +148,7 @@ taking-most s n p run ks true = tt
 taking-most s n p run ks false = (omega arith, (omega arith, (omega arith, (omega arith, tt))))
 
 pub refusal-most : (s : State) (k : Call) → refusalOf s k ≤ 14
-unfolding refusalsOf createRefusals deleteRefusals truncateRefusals appendRefusals inputRefusals writeRefusals
+unfolding refusalsOf createRefusals deleteRefusals truncateRefusals appendRefusals markRefusals inputRefusals writeRefusals
 refusal-most s (createCall n) = first-most 14 (refusalsOf s (createCall n)) (omega arith, (omega arith, (omega arith, (omega arith, (omega arith, (omega arith, (omega arith, (omega arith, tt))))))))
 refusal-most s (deleteCall n) = first-most 14 (refusalsOf s (deleteCall n)) (omega arith, (omega arith, (omega arith, (omega arith, (omega arith, (omega arith, (omega arith, (omega arith, tt))))))))
 refusal-most s (truncateCall n e) = first-most 14 (refusalsOf s (truncateCall n e)) (omega arith, (omega arith, (omega arith, (omega arith, (omega arith, (omega arith, (omega arith, (omega arith, (omega arith, tt)))))))))
@@ -176,6 +178,7 @@ refusal-most s (appendCall n a run ks) =
         ),
       ),
     )
+refusal-most s (markCall n body) = first-most 14 (refusalsOf s (markCall n body)) (omega arith, (omega arith, (omega arith, (omega arith, tt))))
 
 pub refusal-short : (n : ℕ) → n ≤ 16 → length (refusal n) ≤ 11
 unfolding refusal numberLine numbered
@@ -189,6 +192,7 @@ lineMost (createCall n) = 11
 lineMost (deleteCall n) = 11
 lineMost (truncateCall n e) = 13
 lineMost (appendCall n a run ks) = 29
+lineMost (markCall n body) = 11
 
 pub most-least : (k : Call) → 11 ≤ lineMost k
 unfolding lineMost
@@ -196,6 +200,7 @@ most-least (createCall n) = omega arith
 most-least (deleteCall n) = omega arith
 most-least (truncateCall n e) = omega arith
 most-least (appendCall n a run ks) = omega arith
+most-least (markCall n body) = omega arith
 
 evicted-most : (qs : List Queue) (n : List ℕ) (e : ℕ) (f : Found) → find n qs ≡ f → evictedFrom f e ≤ recordCount qs
 unfolding evictedFrom
@@ -234,6 +239,7 @@ ok-short s (appendCall n a run ks) h c z =
     let t : List ℕ = positionText (x .last) in
     let l : length t ≤ 20 = last-short s n a run ks (append-passed s n a run ks z) (givesEmpty a (nextNamed s n) ks) refl in
     omega (arith, ok-length (appendCall n a run ks) x, counts-short x (call-small s (appendCall n a run ks) h), length-append spaceWord t, l)
+ok-short s (markCall n body) h c z = absurd h
 
 module _ (s : State) (k : Call) (h : ShortCall k) (c : recordCount (s .queues) ≤ 1024) where
   line-by : (i : ℕ) → refusalOf s k ≡ i → length (lineBy k (returnedBy i s (doneOf s k) .answer)) ≤ lineMost k

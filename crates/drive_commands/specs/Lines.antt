@@ -6,7 +6,7 @@ use mathlib.Core.List.{List, [], _∷_, _++_}
 use Prim.Native.Nat.{ℕ}
 use lib.Dec.{eqb}
 use Rattle.queues.specs.Queues.{Position, noPosition, at}
-use Rattle.calls.specs.State.{Call, createCall, deleteCall, truncateCall, appendCall, CallAnswer}
+use Rattle.calls.specs.State.{Call, createCall, deleteCall, truncateCall, appendCall, markCall, CallAnswer}
 use Rattle.listing.specs.Digits.{decimal}
 use Rattle.listing.specs.Listing.{space, numbered, numberLine, refusal}
 
@@ -19,12 +19,13 @@ unfoldable pub positionText : Position → List ℕ
 positionText noPosition = 45 ∷ []
 positionText (at p) = decimal p
 
--- "the last position .. after an append or the evicted count after a truncate", with the space before it
+-- "the last position .. after an append or the evicted count after a truncate", with the space before it. No command writes a mark.
 unfoldable pub toldOf : Call → CallAnswer → List ℕ
 toldOf (createCall n) a = []
 toldOf (deleteCall n) a = []
 toldOf (truncateCall n e) a = numbered space (a .evicted)
 toldOf (appendCall n p run ks) a = space ++ positionText (a .last)
+toldOf (markCall n body) a = []
 
 -- "then frame bytes and padding bytes, with single spaces between"
 unfoldable pub countsText : CallAnswer → List ℕ

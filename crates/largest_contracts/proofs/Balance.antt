@@ -14,7 +14,7 @@ use Rattle.queues.specs.Queues.{truncateFound}
 use Rattle.queues.proofs.Walks.{found-stands}
 use Rattle.queues.proofs.Rising.{name-truncate}
 use Rattle.queues.proofs.Sums.{sums-keep, sums-new, sums-without, bytes-appends}
-use Rattle.calls.specs.State.{State, Call, createCall, deleteCall, truncateCall, appendCall, CallAnswer, Returned}
+use Rattle.calls.specs.State.{State, Call, createCall, deleteCall, truncateCall, appendCall, markCall, CallAnswer, Returned}
 use Rattle.calls.specs.Payloads.{itemsAt, firstPosition, givesEmpty}
 use Rattle.calls.specs.Named.{nextOf, appendFound}
 use Rattle.calls.specs.Refusals.{firstRefusal, createRefusals, deleteRefusals, truncateRefusals, appendRefusals, refusalsOf, refusalOf}
@@ -127,12 +127,18 @@ module _ (m : Machine) (s : State) (same : m .queues ≡ s .queues) where
   unfolding machineCall goneBy acceptedBy
   append-balance n a run ks e = omega (arith, append-on n a run ks e (givesEmpty a (nextOf (find n (m .queues))) ks))
 
+  mark-balance : (n : ℕ) (body : List ℕ)
+      → payloadBytes (machineCall m (markCall n body) .queues) + goneBy (m .queues) (markCall n body) ≡ payloadBytes (m .queues) + acceptedBy (m .queues) (markCall n body)
+  unfolding machineCall puts goneBy acceptedBy
+  mark-balance n body = refl
+
   call-balance : (k : Call) → refusalOf s k ≡ 0 → payloadBytes (machineCall m k .queues) + goneBy (m .queues) k ≡ payloadBytes (m .queues) + acceptedBy (m .queues) k
   unfolding refusalsOf
   call-balance (createCall n) e = create-balance n e
   call-balance (deleteCall n) e = delete-balance n e
   call-balance (truncateCall n x) e = truncate-balance n x e
   call-balance (appendCall n a run ks) e = append-balance n a run ks e
+  call-balance (markCall n body) e = mark-balance n body
 
 -- ---- a call that was not refused met no refusal
 

@@ -7,6 +7,9 @@ use Prim.Native.Nat.{ℕ}
 use Rattle.queues.specs.Layout.{Memory, heldEntries}
 use Rattle.queues.proofs.Both.{both}
 use Rattle.queues.proofs.Parts.{place-numbered}
+use Rattle.queues.proofs.Both.{and-left}
+use Rattle.calls.specs.State.{queueBytes}
+use Rattle.calls.specs.Calls.{callOf}
 use Rattle.calls.specs.Machine.{Fed}
 use Rattle.contracts.specs.Contracts.{Lent}
 use Rattle.contracts.specs.Run.{opening, Run, begin}

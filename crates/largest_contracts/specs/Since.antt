@@ -6,7 +6,8 @@ use mathlib.Core.Bool.{true, false}
 use mathlib.Core.List.{List}
 use Prim.Native.Nat.{ℕ, _≤_}
 use lib.ListN.{length}
-use Rattle.queues.specs.Layout.{Memory}
+use Rattle.queues.specs.Layout.{Memory, arranged}
+use Rattle.calls.specs.State.{queueBytes}
 use Rattle.calls.specs.Refusals.{logRefused}
 use Rattle.read_step.specs.declared.ReplayAnswer.{ReplayAnswer}
 use Rattle.contracts.specs.Contracts.{ReplayKept}

@@ -22,8 +22,8 @@ use Rattle.queues.proofs.Rising.{risen, Fine, arranged-fine, fine-next}
 use Rattle.listing.specs.Digits.{digit, hexRun, hex, decimal}
 use Rattle.listing.specs.Writing.{written}
 use Rattle.listing.specs.Internal.{behind}
-use Rattle.listing.specs.Listing.{queuesWord, queueWord, startWord, nextWord, heldWord, recordWord, lostWord, fillWord, space, point, lineFeed, numbered, numberLine, headLine, queueLine, recordLine, recordLines, queueLines, wholeBytes, halfEven, fillTenths, fillLine, endLines, listing}
-use Rattle.listing.specs.Claims.{LogFits, WrittenFits, WrittenShort, ListingShort, MemoryShort}
+use Rattle.listing.specs.Listing.{shiftWord, shiftLines, queuesWord, queueWord, startWord, nextWord, heldWord, recordWord, lostWord, fillWord, space, point, lineFeed, numbered, numberLine, headLine, queueLine, recordLine, recordLines, queueLines, wholeBytes, halfEven, fillTenths, fillLine, endLines, listing}
+use Rattle.listing.specs.Claims.{LogFits, WrittenFits, WrittenShort, ShiftsShort, ListingShort, MemoryShort}
 use Rattle.listing.proofs.Writes.{by-test, written-append, written-out, behind-in}
 use Rattle.listing.proofs.Rounding.{half-even-most}
 use Rattle.listing.proofs.Notation.{decimal-one, decimal-more}
@@ -135,6 +135,12 @@ queues-short (q ∷ qs) e h =
       queue-short q (and-left here (first && inOrder qs) e) (omega arith),
       queues-short qs (and-right first (inOrder qs) (and-right here (first && inOrder qs) e)) (omega arith),
     )
+
+pub shifts-short : ShiftsShort
+unfolding shiftLines
+shifts-short [] h = omega arith
+shifts-short (n ∷ ns) h =
+    omega (arith, length-append (numberLine shiftWord n) (shiftLines ns), line-short shiftWord n (h 0), shifts-short ns (λ i. h (suc i)))
 
 fill-short : (resumed n : ℕ) → LogFits resumed n → length (fillLine (fillTenths resumed n)) ≤ 47
 unfolding fillLine fillTenths wholeBytes

@@ -157,10 +157,10 @@ asks-held 𝓤 H A W mem run κ-table s-table γ-table b-table o-table n-table t
     qed W (‵ (flft κ-table s-table) ∷ ‵ (ShrSlice (named 0) κ-table u64 .own (at-list u64 κ-table s-table γ-table b-table o-table n-table γ-table table) (slice u64 κ-table s-table γ-table b-table o-table n-table ∷ [])) ∷ []) ∵ nothing ! $ move ! (2 ∷ 0 ∷ []) $ fjoin ! $ nothing ! $ move ! (2 ∷ 0 ∷ []) $ join ! $ join ! $ frame ! $ done !
 
 -- what `queues_line` asks
-asks-queues-line : {M : Type 1} (𝓤 : URA M) (H : Heap 𝓤) (A : Atoms 𝓤) (W : Given 𝓤 H A) (mem : Memory → SProp 𝓤) (run : Routine → Fun 𝓤) (κ-out : Lft) (s-out : Share) (γ-out : GName) (b-out o-out n-out : ℕ) (out : List ℕ) (queues : ℕ) (queues-is : queues < 2 ^ 64) (ν-out : ℕ) (δ-out : GName)
-    → ent 𝓤 (⋆ 𝓤 H A (‵ (flft (ν-out ∷ []) fullShare) ∷ ‵ (MutSlice (named 0) (ν-out ∷ []) u8 .own (at-list u8 κ-out s-out γ-out b-out o-out n-out δ-out out) (slice u8 κ-out s-out γ-out b-out o-out n-out ∷ [])) ∷ [])) ((QueuesLineSays 𝓤 H A mem run) .pre (((ν-out ∷ [], tt), (fullShare, tt), tt, (at-list u8 κ-out s-out γ-out b-out o-out n-out δ-out out, (queues, tt)), (slice u8 κ-out s-out γ-out b-out o-out n-out ∷ [], (vint w64 queues ∷ [], tt))), tt))
-asks-queues-line 𝓤 H A W mem run κ-out s-out γ-out b-out o-out n-out out queues queues-is ν-out δ-out =
-    qed W (‵ (flft (ν-out ∷ []) fullShare) ∷ ‵ (MutSlice (named 0) (ν-out ∷ []) u8 .own (at-list u8 κ-out s-out γ-out b-out o-out n-out δ-out out) (slice u8 κ-out s-out γ-out b-out o-out n-out ∷ [])) ∷ []) ∵ nothing ! $ owned ! usize (Is usize) (uint-makes 𝓤 H A W w64) queues _ (refl, queues-is) $ fjoin ! $ move ! (2 ∷ 0 ∷ []) $ fjoin ! $ nothing ! $ move ! (2 ∷ 0 ∷ []) $ join ! $ join ! $ frame ! $ done !
+asks-queues-line : {M : Type 1} (𝓤 : URA M) (H : Heap 𝓤) (A : Atoms 𝓤) (W : Given 𝓤 H A) (mem : Memory → SProp 𝓤) (run : Routine → Fun 𝓤) (κ-out : Lft) (s-out : Share) (γ-out : GName) (b-out o-out n-out : ℕ) (out : List ℕ) (place : ℕ) (place-is : place < 2 ^ 64) (queues : ℕ) (queues-is : queues < 2 ^ 64) (ν-out : ℕ) (δ-out : GName)
+    → ent 𝓤 (⋆ 𝓤 H A (‵ (flft (ν-out ∷ []) fullShare) ∷ ‵ (MutSlice (named 0) (ν-out ∷ []) u8 .own (at-list u8 κ-out s-out γ-out b-out o-out n-out δ-out out) (slice u8 κ-out s-out γ-out b-out o-out n-out ∷ [])) ∷ [])) ((QueuesLineSays 𝓤 H A mem run) .pre (((ν-out ∷ [], tt), (fullShare, tt), tt, (at-list u8 κ-out s-out γ-out b-out o-out n-out δ-out out, (place, (queues, tt))), (slice u8 κ-out s-out γ-out b-out o-out n-out ∷ [], (vint w64 place ∷ [], (vint w64 queues ∷ [], tt)))), tt))
+asks-queues-line 𝓤 H A W mem run κ-out s-out γ-out b-out o-out n-out out place place-is queues queues-is ν-out δ-out =
+    qed W (‵ (flft (ν-out ∷ []) fullShare) ∷ ‵ (MutSlice (named 0) (ν-out ∷ []) u8 .own (at-list u8 κ-out s-out γ-out b-out o-out n-out δ-out out) (slice u8 κ-out s-out γ-out b-out o-out n-out ∷ [])) ∷ []) ∵ nothing ! $ owned ! usize (Is usize) (uint-makes 𝓤 H A W w64) queues _ (refl, queues-is) $ fjoin ! $ owned ! usize (Is usize) (uint-makes 𝓤 H A W w64) place _ (refl, place-is) $ fjoin ! $ move ! (2 ∷ 0 ∷ []) $ fjoin ! $ nothing ! $ move ! (2 ∷ 0 ∷ []) $ join ! $ join ! $ frame ! $ done !
 
 -- what `end_lines` asks
 asks-end-lines : {M : Type 1} (𝓤 : URA M) (H : Heap 𝓤) (A : Atoms 𝓤) (W : Given 𝓤 H A) (mem : Memory → SProp 𝓤) (run : Routine → Fun 𝓤) (κ-out : Lft) (s-out : Share) (γ-out : GName) (b-out o-out n-out : ℕ) (out : List ℕ) (place : ℕ) (place-is : place < 2 ^ 64) (lost : ℕ) (lost-is : lost < 2 ^ 64) (resumed : ℕ) (resumed-is : resumed < 2 ^ 64) (bytes : ℕ) (bytes-is : bytes < 2 ^ 64) (need : LogFits resumed bytes) (ν-out : ℕ) (δ-out : GName)
@@ -392,31 +392,31 @@ module _ {M : Type 1} {𝓤 : URA M} {H : Heap 𝓤} {A : Atoms 𝓤} {K : Type 
         asks : ent 𝓤 (⋆ 𝓤 H A (‵ (flft κ-table s-table) ∷ ‵ (ShrSlice (named 0) κ-table u64 .own (at-list u64 κ-table s-table γ-table b-table o-table n-table γ-table table) (slice u64 κ-table s-table γ-table b-table o-table n-table ∷ [])) ∷ [])) ((HeldSays 𝓤 H A mem run) .pre to)
         asks = asks-held 𝓤 H A W mem run κ-table s-table γ-table b-table o-table n-table table
 
-    pub queues-line! : K → FmC 𝓤 H (W .laws) C → Triple 𝓤 (C #listing·text·queues-line) (QueuesLineSays 𝓤 H A mem run) → {κ-out : Lft} {s-out : Share} {γ-out : GName} {b-out o-out n-out : ℕ} (out : List ℕ) → length out ≡ n-out → Room u8 n-out → (queues : ℕ) → queues < 2 ^ 64 →
-        ((j : Item 𝓤) → Opds K W (j ∷ Γ) E xs (slice u8 κ-out s-out γ-out b-out o-out n-out ∷ vint w64 queues ∷ []))
-        → ((behind (length out) 0 (length (numberLine queuesWord queues))) < 2 ^ 64 → length (written out 0 (numberLine queuesWord queues)) ≡ n-out → Seq K W (‵ (Hold u8 κ-out s-out γ-out b-out o-out n-out (written out 0 (numberLine queuesWord queues))) ∷ Γ) (lands C Λ E d (vint w64 (behind (length out) 0 (length (numberLine queuesWord queues)))) rest p))
+    pub queues-line! : K → FmC 𝓤 H (W .laws) C → Triple 𝓤 (C #listing·text·queues-line) (QueuesLineSays 𝓤 H A mem run) → {κ-out : Lft} {s-out : Share} {γ-out : GName} {b-out o-out n-out : ℕ} (out : List ℕ) → length out ≡ n-out → Room u8 n-out → (place : ℕ) → place < 2 ^ 64 → (queues : ℕ) → queues < 2 ^ 64 →
+        ((j : Item 𝓤) → Opds K W (j ∷ Γ) E xs (slice u8 κ-out s-out γ-out b-out o-out n-out ∷ vint w64 place ∷ vint w64 queues ∷ []))
+        → ((behind (length out) place (length (numberLine queuesWord queues))) < 2 ^ 64 → length (written out place (numberLine queuesWord queues)) ≡ n-out → Seq K W (‵ (Hold u8 κ-out s-out γ-out b-out o-out n-out (written out place (numberLine queuesWord queues))) ∷ Γ) (lands C Λ E d (vint w64 (behind (length out) place (length (numberLine queuesWord queues)))) rest p))
         → Seq K W (‵ (Hold u8 κ-out s-out γ-out b-out o-out n-out out) ∷ Γ) (runs C Λ E (seq (call #listing·text·queues-line xs d) rest) p)
-    queues-line! t fm known {κ-out} {s-out} {γ-out} {b-out} {o-out} {n-out} out len-out room-out queues queues-is opds k =
+    queues-line! t fm known {κ-out} {s-out} {γ-out} {b-out} {o-out} {n-out} out len-out room-out place place-is queues queues-is opds k =
         lft-new t tt (λ ν-out. move t (1 ∷ []) $ use1 W (later (some (λ (δ : GName). ‵ (MutSlice (named 0) (ν-out ∷ []) u8 .own (at-list u8 κ-out s-out γ-out b-out o-out n-out δ out) (slice u8 κ-out s-out γ-out b-out o-out n-out ∷ [])) ⊛ ‵ (Lent u8 κ-out s-out γ-out b-out o-out n-out ν-out δ out)))) (lends 𝓤 H A W u8 κ-out s-out γ-out b-out o-out ν-out n-out out len-out) $ await t tt $ pick t (λ δ-out. split t $
         move t (2 ∷ 0 ∷ []) $ group t 2 $ use1 W (raw ((QueuesLineSays 𝓤 H A mem run) .pre (to ν-out δ-out))) (asks ν-out δ-out) $ group t 2 $
         calls-kept t fm (QueuesLineSays 𝓤 H A mem run) known (to ν-out δ-out) (‵ (Lent u8 κ-out s-out γ-out b-out o-out n-out ν-out δ-out out)) (opds _) (λ v.
         use1 W (later (some (λ (r : ℕ). ((‵ (flft (ν-out ∷ []) fullShare) ⊛ ‵ ftrue) ⊛ ‵ (usize .own r (v ∷ []))) ⊛ raw (ensured 𝓤 H A queues-line.ended (queues-line.clauses 𝓤 H A mem run) (ν-out ∷ [], tt) (args ν-out δ-out) tt r)))) (id⊢ 𝓤 _) $ await t tt $ pick t (λ r. split t $ move t (1 ∷ []) $
-        use1 W (some (λ (ws : (List ℕ × (Unit {0} × Unit {0}))). ‵ (lasts queues-line.ended (ν-out ∷ [], tt) (args ν-out δ-out) ws) ⊛ raw (fact 𝓤 (Said r (ws .0))))) (id⊢ 𝓤 _) $ pick t (λ ws. split t $ move t (1 ∷ []) $ heard t (Said r (ws .0)) (λ said. fsplit t $ fsplit t $ move t (1 ∷ []) $ feqL t (λ same-out. move t (1 ∷ []) $ drop t $
+        use1 W (some (λ (ws : (List ℕ × (Unit {0} × (Unit {0} × Unit {0})))). ‵ (lasts queues-line.ended (ν-out ∷ [], tt) (args ν-out δ-out) ws) ⊛ raw (fact 𝓤 (Said r (ws .0))))) (id⊢ 𝓤 _) $ pick t (λ ws. split t $ move t (1 ∷ []) $ heard t (Said r (ws .0)) (λ said. fsplit t $ fsplit t $ move t (1 ∷ []) $ feqL t (λ same-out. move t (1 ∷ []) $ drop t $
         move t (1 ∷ []) $ split t $ move t (1 ∷ []) $ peeks t usize (Is usize) (shows 𝓤 H A usize) r (v ∷ []) (λ is. drop t $ split t $ lft-end t tt $ move t (1 ∷ []) $ drop t $
         move t (0 ∷ 2 ∷ 1 ∷ []) $ use3 W (later (‵ (Hold u8 κ-out s-out γ-out b-out o-out n-out (ws .0)))) (back 𝓤 H A W u8 κ-out s-out γ-out b-out o-out ν-out n-out δ-out out (ws .0) room-out len-out (same-out ∙ len-out)) $ await t tt $ rewrite t 0 (λ (l : List ℕ). ‵ (Hold u8 κ-out s-out γ-out b-out o-out n-out l)) (said .1) refl $
-        subst (λ (u : Val). Seq K W (‵ (Hold u8 κ-out s-out γ-out b-out o-out n-out (written out 0 (numberLine queuesWord queues))) ∷ Γ) (lands C Λ E d u rest p)) (sym (ap only (is .0) ∙ ap (vint w64) (said .0))) (k (subst (λ (m : ℕ). m < 2 ^ 64) (said .0) (is .1)) (ap length (sym (said .1)) ∙ same-out ∙ len-out))))))))))
+        subst (λ (u : Val). Seq K W (‵ (Hold u8 κ-out s-out γ-out b-out o-out n-out (written out place (numberLine queuesWord queues))) ∷ Γ) (lands C Λ E d u rest p)) (sym (ap only (is .0) ∙ ap (vint w64) (said .0))) (k (subst (λ (m : ℕ). m < 2 ^ 64) (said .0) (is .1)) (ap length (sym (said .1)) ∙ same-out ∙ len-out))))))))))
       where
-        args : (ν-out : ℕ) (δ-out : GName) → (RefT (List ℕ) × (ℕ × Unit {0}))
-        args ν-out δ-out = (at-list u8 κ-out s-out γ-out b-out o-out n-out δ-out out, (queues, tt))
+        args : (ν-out : ℕ) (δ-out : GName) → (RefT (List ℕ) × (ℕ × (ℕ × Unit {0})))
+        args ν-out δ-out = (at-list u8 κ-out s-out γ-out b-out o-out n-out δ-out out, (place, (queues, tt)))
 
         Said : ℕ → List ℕ → Type 0
-        Said r l-out = (r ≡ behind (length out) 0 (length (numberLine queuesWord queues))) × (l-out ≡ written out 0 (numberLine queuesWord queues))
+        Said r l-out = (r ≡ behind (length out) place (length (numberLine queuesWord queues))) × (l-out ≡ written out place (numberLine queuesWord queues))
 
         to : (ν-out : ℕ) (δ-out : GName) → (QueuesLineSays 𝓤 H A mem run) .Ghost
-        to ν-out δ-out = (((ν-out ∷ [], tt), (fullShare, tt), tt, (args ν-out δ-out), (slice u8 κ-out s-out γ-out b-out o-out n-out ∷ [], (vint w64 queues ∷ [], tt))), tt)
+        to ν-out δ-out = (((ν-out ∷ [], tt), (fullShare, tt), tt, (args ν-out δ-out), (slice u8 κ-out s-out γ-out b-out o-out n-out ∷ [], (vint w64 place ∷ [], (vint w64 queues ∷ [], tt)))), tt)
 
         asks : (ν-out : ℕ) (δ-out : GName) → ent 𝓤 (⋆ 𝓤 H A (‵ (flft (ν-out ∷ []) fullShare) ∷ ‵ (MutSlice (named 0) (ν-out ∷ []) u8 .own (at-list u8 κ-out s-out γ-out b-out o-out n-out δ-out out) (slice u8 κ-out s-out γ-out b-out o-out n-out ∷ [])) ∷ [])) ((QueuesLineSays 𝓤 H A mem run) .pre (to ν-out δ-out))
-        asks ν-out δ-out = asks-queues-line 𝓤 H A W mem run κ-out s-out γ-out b-out o-out n-out out queues queues-is ν-out δ-out
+        asks ν-out δ-out = asks-queues-line 𝓤 H A W mem run κ-out s-out γ-out b-out o-out n-out out place place-is queues queues-is ν-out δ-out
 
     pub end-lines! : K → FmC 𝓤 H (W .laws) C → Triple 𝓤 (C #listing·text·end-lines) (EndLinesSays 𝓤 H A mem run) → {κ-out : Lft} {s-out : Share} {γ-out : GName} {b-out o-out n-out : ℕ} (out : List ℕ) → length out ≡ n-out → Room u8 n-out → (place : ℕ) → place < 2 ^ 64 → (lost : ℕ) → lost < 2 ^ 64 → (resumed : ℕ) → resumed < 2 ^ 64 → (bytes : ℕ) → bytes < 2 ^ 64 → (LogFits resumed bytes) →
         ((j : Item 𝓤) → Opds K W (j ∷ Γ) E xs (slice u8 κ-out s-out γ-out b-out o-out n-out ∷ vint w64 place ∷ vint w64 lost ∷ vint w64 resumed ∷ vint w64 bytes ∷ []))

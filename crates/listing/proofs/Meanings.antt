@@ -22,7 +22,7 @@ use Rattle.listing.specs.Writing.{written, listed}
 use Rattle.listing.specs.Internal.{behind, Wrote}
 use Rattle.listing.specs.Listing.{queuesWord, numberLine, headLine, queueLine, recordLine, recordLines, queueLines, endLines, listing}
 use Rattle.listing.specs.Passes.{rowLine, entryLine, counted, countTo, linesTo, queueText, queuesTo}
-use Rattle.listing.proofs.Writes.{length-written, wrote, on, reads, listed-behind}
+use Rattle.listing.proofs.Writes.{length-written, wrote, on, reads}
 
 -- ---- the entries of one queue
 
@@ -117,15 +117,15 @@ module _ (m : Memory) (a : arranged m ≡ true) where
   text-means lost resumed bytes =
       ap₂ (λ (n : ℕ) (l : List ℕ). numberLine queuesWord n ++ (l ++ endLines lost resumed bytes)) (sym (queues-held m facts)) texts-mean
 
--- ---- three pieces, written from the buffer's start on
+-- ---- three pieces, written from a place of the buffer on
 
 -- the answer for the last place, and what is left in the buffer, are those of the whole text
-module _ (s xs ys zs text : List ℕ) where
+module _ (s : List ℕ) (p : ℕ) (xs ys zs text : List ℕ) where
   abbrev first : List ℕ
-  first = written s 0 xs
+  first = written s p xs
 
   abbrev at-first : ℕ
-  at-first = behind (length s) 0 (length xs)
+  at-first = behind (length s) p (length xs)
 
   abbrev second : List ℕ
   second = written first at-first ys
@@ -134,18 +134,20 @@ module _ (s xs ys zs text : List ℕ) where
   at-second = behind (length first) at-first (length ys)
 
   abbrev pub Pieces : Type 0
-  Pieces = (listed (length second) (behind (length second) at-second (length zs)) ≡ listed (length s) (length text)) × (written second at-second zs ≡ written s 0 text)
+  Pieces =
+      (listed (length second) (behind (length second) at-second (length zs)) ≡ listed (length s) (behind (length s) p (length text)))
+      × (written second at-second zs ≡ written s p text)
 
   pieces : xs ++ (ys ++ zs) ≡ text → Pieces
   pieces e =
       let two : Wrote first at-first (ys ++ zs) (behind (length second) at-second (length zs)) (written second at-second zs) =
       on (wrote {xs = ys} refl refl) (wrote {xs = zs} refl refl) in
-      let all : Wrote s 0 text (behind (length second) at-second (length zs)) (written second at-second zs) = reads e (on (wrote {xs = xs} refl refl) two) in
-      let long : length second ≡ length s = length-written first at-first ys ∙ length-written s 0 xs in
-      (ap₂ listed long (all .place) ∙ listed-behind (length s) (length text), all .buffer)
+      let all : Wrote s p text (behind (length second) at-second (length zs)) (written second at-second zs) = reads e (on (wrote {xs = xs} refl refl) two) in
+      let long : length second ≡ length s = length-written first at-first ys ∙ length-written s p xs in
+      (ap₂ listed long (all .place), all .buffer)
 
-pub list-is : (ns ps : List ℕ) (es : List RecordEntry) (t : List ℕ) (lost resumed bytes : ℕ) (s : List ℕ) → arranged (memory ns ps es t) ≡ true
-    → Pieces s (numberLine queuesWord (queuesHeld t)) (queuesTo ns ps es t (recordsHeld t) (queuesHeld t)) (endLines lost resumed bytes) (listing (meaning (memory ns ps es t)) lost resumed bytes)
-list-is ns ps es t lost resumed bytes s a =
-    pieces s (numberLine queuesWord (queuesHeld t)) (queuesTo ns ps es t (recordsHeld t) (queuesHeld t)) (endLines lost resumed bytes) (listing (meaning (memory ns ps es t)) lost resumed bytes)
+pub list-is : (ns ps : List ℕ) (es : List RecordEntry) (t : List ℕ) (lost resumed bytes : ℕ) (s : List ℕ) (p : ℕ) → arranged (memory ns ps es t) ≡ true
+    → Pieces s p (numberLine queuesWord (queuesHeld t)) (queuesTo ns ps es t (recordsHeld t) (queuesHeld t)) (endLines lost resumed bytes) (listing (meaning (memory ns ps es t)) lost resumed bytes)
+list-is ns ps es t lost resumed bytes s p a =
+    pieces s p (numberLine queuesWord (queuesHeld t)) (queuesTo ns ps es t (recordsHeld t) (queuesHeld t)) (endLines lost resumed bytes) (listing (meaning (memory ns ps es t)) lost resumed bytes)
     (text-means (memory ns ps es t) a lost resumed bytes)

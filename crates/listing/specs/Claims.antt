@@ -6,7 +6,7 @@ use mathlib.Core.Bool.{true, cond}
 use mathlib.Core.List.{List, [], _∷_, _++_, map}
 use Prim.Native.Nat.{ℕ, _+_, _*_, _-_, _^_, _≤_, _<_, _/_, _%_}
 use lib.Dec.{ltb}
-use lib.ListN.{length, take}
+use lib.ListN.{length, take, getD}
 use Rattle.slices.specs.Bytes.{Bytes}
 use Rattle.record.specs.Record.{item}
 use Rattle.slices.specs.Put.{put}
@@ -14,7 +14,7 @@ use Rattle.queues.specs.Queues.{Queue, queue, nameBytes, recordCount, payloadBy
 use Rattle.queues.specs.Layout.{Memory, meaning, arranged}
 use Rattle.listing.specs.Digits.{hexRun, decimal}
 use Rattle.listing.specs.Writing.{written}
-use Rattle.listing.specs.Listing.{wholeBytes, halfEven, fillTenths, listing, refusal}
+use Rattle.listing.specs.Listing.{shiftLines, wholeBytes, halfEven, fillTenths, listing, refusal}
 
 -- ---- 01's example
 
@@ -59,6 +59,10 @@ LastNumber = (decimal 0xFFFFFFFFFFFFFFFF ≡ 49 ∷ 56 ∷ 52 ∷ 52 ∷ 54 ∷ 
 -- of one block: nothing used, the exact halves of a tenth (6.25, 18.75, 31.25 .. 93.75 percent), all; and half a block used of one with a tail
 abbrev pub Fills : Type 0
 Fills = (map (λ (p : ℕ). fillTenths p 32768) (0 ∷ 2048 ∷ 6144 ∷ 10240 ∷ 14336 ∷ 18432 ∷ 22528 ∷ 26624 ∷ 30720 ∷ 32768 ∷ []) ≡ 0 ∷ 62 ∷ 188 ∷ 312 ∷ 438 ∷ 562 ∷ 688 ∷ 812 ∷ 938 ∷ 1000 ∷ []) × (fillTenths 16384 65535 ≡ 500)
+
+-- "shift 2", "shift 0", "shift 18446744073709551615": in the order of the list
+abbrev pub ShiftTexts : Type 0
+ShiftTexts = shiftLines (2 ∷ 0 ∷ 0xFFFFFFFFFFFFFFFF ∷ []) ≡ 115 ∷ 104 ∷ 105 ∷ 102 ∷ 116 ∷ 32 ∷ 50 ∷ 10 ∷ 115 ∷ 104 ∷ 105 ∷ 102 ∷ 116 ∷ 32 ∷ 48 ∷ 10 ∷ 115 ∷ 104 ∷ 105 ∷ 102 ∷ 116 ∷ 32 ∷ 49 ∷ 56 ∷ 52 ∷ 52 ∷ 54 ∷ 55 ∷ 52 ∷ 52 ∷ 48 ∷ 55 ∷ 51 ∷ 55 ∷ 48 ∷ 57 ∷ 53 ∷ 53 ∷ 49 ∷ 54 ∷ 49 ∷ 53 ∷ 10 ∷ []
 
 -- "refused 14"
 abbrev pub RefusalText : Type 0
@@ -125,6 +129,10 @@ pub record LogFits (resumed n : ℕ) : Type 0 where
   pub a-block : 32768 ≤ n
   pub few-blocks : n / 32768 ≤ 4096
   pub inside : resumed ≤ n
+
+-- the line of a mark has at most 27 bytes, with a shift number of 8
+abbrev pub ShiftsShort : Type 0
+ShiftsShort = (ns : List ℕ) → ((i : ℕ) → getD ns i 0 < 2 ^ 64) → length (shiftLines ns) ≤ 27 * length ns
 
 -- with the sizes that 01 gives `readout`: "64 queues, 1,024 records, 32,768 payload bytes and 32,768 name bytes"
 abbrev pub ListingShort : Type 0

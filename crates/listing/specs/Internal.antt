@@ -35,3 +35,7 @@ WrotePast s p xs n q t = (q ≡ cursor (behind (length s) p (length xs)) n) × (
 -- the text xs stands in the buffer s from its start on: a is what is answered, t what is left in the buffer
 abbrev pub Lists : List ℕ → List ℕ → Listed → List ℕ → Type 0
 Lists s xs a t = (a ≡ listed (length s) (length xs)) × (t ≡ written s 0 xs)
+
+-- the same from a place p on: what is answered is for all that ends with xs
+abbrev pub ListsFrom : List ℕ → ℕ → List ℕ → Listed → List ℕ → Type 0
+ListsFrom s p xs a t = (a ≡ listed (length s) (behind (length s) p (length xs))) × (t ≡ written s p xs)

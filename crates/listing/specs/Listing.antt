@@ -1,4 +1,4 @@
--- Definition (01, "Readout"; 02, Ticket 2).
+-- Definition (01, "Readout"; 02, Tickets 2 and 11).
 -- 01, "Readout": the text that is listed for the queues, the bytes lost and the resume point, line by line.
 -- Characters are their ASCII codes; each line ends with a line feed, 10.
 -- Assumes nothing.
@@ -12,6 +12,10 @@ use Rattle.queues.specs.Queues.{Queue, next}
 use Rattle.listing.specs.Digits.{hex, decimal}
 
 -- ---- the words, each with the spaces around it
+
+-- "shift "
+abbrev pub shiftWord : List ℕ
+shiftWord = 115 ∷ 104 ∷ 105 ∷ 102 ∷ 116 ∷ 32 ∷ []
 
 -- "queues "
 abbrev pub queuesWord : List ℕ
@@ -68,6 +72,11 @@ numbered w n = w ++ decimal n
 unfoldable pub numberLine : List ℕ → ℕ → List ℕ
 numberLine w n = numbered w n ++ lineFeed
 
+-- 02, Ticket 11: "A new desk lists it as `shift` and the number", a line for each mark
+unfoldable pub shiftLines : List ℕ → List ℕ
+shiftLines [] = []
+shiftLines (n ∷ ns) = numberLine shiftWord n ++ shiftLines ns
+
 -- a queue's name, start, next position and number of records
 unfoldable pub headLine : List ℕ → ℕ → ℕ → ℕ → List ℕ
 headLine name s n k = queueWord ++ (hex name ++ (numbered startWord s ++ (numbered nextWord n ++ numberLine heldWord k)))
@@ -112,7 +121,7 @@ fillLine t = numbered fillWord (t / 10) ++ numberLine point (t % 10)
 unfoldable pub endLines : ℕ → ℕ → ℕ → List ℕ
 endLines lost resumed n = numberLine lostWord lost ++ fillLine (fillTenths resumed n)
 
--- what is listed for a log of n bytes
+-- what is listed for a log of n bytes, from the line `queues` on
 unfoldable pub listing : List Queue → ℕ → ℕ → ℕ → List ℕ
 listing qs lost resumed n = numberLine queuesWord (length qs) ++ (queueLines qs ++ endLines lost resumed n)
 

@@ -6,7 +6,7 @@ ghost use lib.ListN.{length};
 ghost use Rattle.queues.specs.Layout.{memory, meaning, arranged};
 ghost use Rattle.queues.specs.Changes.{wordAt};
 ghost use Rattle.listing.specs.Writing.{written};
-ghost use Rattle.listing.specs.Internal.{WrotePast, Lists};
+ghost use Rattle.listing.specs.Internal.{WrotePast, ListsFrom};
 ghost use Rattle.listing.specs.Listing.{listing};
 ghost use Rattle.listing.specs.Claims.{LogFits};
 ghost use Rattle.queues.specs.Passes.{EntriesFit, QueueFits};
@@ -84,7 +84,7 @@ pub fn queue_text(
     past_queue(row, lines)
 }
 
-// The listing of a memory that is arranged, from the buffer's start on.
+// The listing of a memory that is arranged, from a place of the buffer on.
 pub fn list(
     names: &[u8],
     payloads: &[u8],
@@ -94,15 +94,16 @@ pub fn list(
     resumed: usize,
     log_bytes: usize,
     out: &mut [u8],
+    at: usize,
 ) -> Listed
     requires { ⌜ (arranged (memory (now names) (now payloads) (now entries) (now table)) ≡ true)
         × LogFits resumed «log_bytes» ⌝ }
-    ensures { λ r. ⌜ Lists (now (out .entry))
+    ensures { λ r. ⌜ ListsFrom (now (out .entry)) at
         (listing (meaning (memory (now (names .entry)) (now (payloads .entry)) (now (entries .entry)) (now (table .entry)))) lost resumed «log_bytes»)
         r (now (out .exit)) ⌝ }
 {
     let sums = held(table);
-    let first = queues_line(out, sums.queues);
+    let first = queues_line(out, at, sums.queues);
     let mut from = Cursor {
         at: first,
         passed: 0,

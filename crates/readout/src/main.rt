@@ -5,7 +5,7 @@ use card_input::read_card;
 use listing::Listed;
 
 fn show(input: &[u8]) {
-    let mut out = [0u8; 167461];
+    let mut out = [0u8; 420235];
     let Listed::Bytes(n) = readout_text::list_card(input, &mut out) else {
         return;
     };

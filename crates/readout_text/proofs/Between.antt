@@ -1,11 +1,11 @@
 -- From what replay leaves to the listing: what the listing asks holds, and the text that is left is the one that the definitions give.
 -- Assumes nothing.
-use mathlib.Core.Path.{_≡_, sym, _∙_, ap, subst}
+use mathlib.Core.Path.{_≡_, refl, sym, _∙_, ap, ap₂, subst}
 use mathlib.Core.Bool.{Bool, true, false, cond}
-use mathlib.Core.List.{List}
+use mathlib.Core.List.{List, _++_}
 use Prim.Native.Nat.{ℕ, _*_, _≤_}
 use native.Mathlib.Omega.{arith}
-use lib.ListN.{length}
+use lib.ListN.{length, length-replicate}
 use Rattle.slices.specs.Bytes.{zeros}
 use Rattle.frame.specs.Block.{blocks}
 use Rattle.recordlog.specs.Read.{resume}
@@ -16,6 +16,7 @@ use Rattle.calls.specs.Refusals.{logRefused}
 use Rattle.calls.specs.Reading.{readings, lostIn}
 use Rattle.calls.specs.Lost.{lostBytes}
 use Rattle.calls.specs.Replay.{Outcome, refused, left, replayOf, replayedBy, replayCall, outcomeQueues, replayScratch}
+use Rattle.calls.specs.Desks.{marksIn, listedBy, marksListed}
 use Rattle.calls.proofs.Passed.{log-taken}
 use Rattle.calls.proofs.AnyLog.{resumes-in-log}
 use Rattle.read_step.specs.declared.ReplayAnswer.{ReplayAnswer}
@@ -23,10 +24,13 @@ use Rattle.largest.specs.Table.{keptLeft, keptWhen, tableLeft}
 use Rattle.contracts.specs.Contracts.{replayAnswerBy, replayAnswer, ReplayKept}
 use Rattle.contracts.specs.Turning.{QueuesLeft, QueuesReplayed}
 use Rattle.contracts.proofs.ReplayTable.{taken, queues-kept, table-kept}
+use Rattle.listing.specs.declared.Listed.{Listed}
 use Rattle.listing.specs.Writing.{written, listed}
-use Rattle.listing.specs.Listing.{listing, refusal}
+use Rattle.listing.specs.Internal.{behind, Wrote}
+use Rattle.listing.specs.Listing.{shiftLines, listing, refusal}
 use Rattle.listing.specs.Claims.{LogFits}
-use Rattle.listing.proofs.Writes.{length-written}
+use Rattle.listing.proofs.Writes.{length-written, wrote, on, listed-behind}
+use Rattle.shift_lines.specs.Shifts.{marksText}
 use Rattle.readout_text.specs.Card.{textBy, textFor, textIn}
 use Rattle.readout_text.specs.Kept.{numbersOf, closedAnswer, closedText, lentTo, CardKept}
 use Rattle.readout_text.proofs.OwnTable.{blanks-length}
@@ -91,23 +95,47 @@ module _ (log scratch scratch′ : List ℕ) (m m′ : Memory) (a : ReplayAnswer
     },
   )
 
--- ---- what is left
+-- ---- what is left: the marks, and the listing behind them
 
-module _ (out : List ℕ) (clear : out ≡ zeros (length out)) (m′ : Memory) (lost bytes p n : ℕ) where
+-- the text ys behind the text xs, which stands at the buffer's start; and what is answered for both
+abbrev pub bothIn : List ℕ → List ℕ → List ℕ → List ℕ
+bothIn out xs ys = written (written out 0 xs) (behind (length out) 0 (length xs)) ys
+
+abbrev pub bothTold : List ℕ → List ℕ → List ℕ → Listed
+bothTold out xs ys = listed (length (written out 0 xs)) (behind (length (written out 0 xs)) (behind (length out) 0 (length xs)) (length ys))
+
+module _ (out xs ys : List ℕ) where
+  both-wrote : Wrote out 0 (xs ++ ys) (behind (length (written out 0 xs)) (behind (length out) 0 (length xs)) (length ys)) (bothIn out xs ys)
+  both-wrote = on (wrote {xs = xs} refl refl) (wrote {xs = ys} refl refl)
+
+  both-answer : bothTold out xs ys ≡ listed (length out) (length (xs ++ ys))
+  both-answer = ap₂ listed (length-written out 0 xs) (both-wrote .place) ∙ listed-behind (length out) (length (xs ++ ys))
+
+  both-long : length (bothIn out xs ys) ≡ length out
+  both-long = length-written (written out 0 xs) (behind (length out) 0 (length xs)) ys ∙ length-written out 0 xs
+
+module _ (out : List ℕ) (clear : out ≡ zeros (length out)) (shifts : List ℕ) (m′ : Memory) (lost bytes p n : ℕ) where
   abbrev shown : Outcome → List ℕ
   shown o = shownIn (replayAnswer (replayedBy o lost bytes p)) m′ n
 
-  answer-by : (o : Outcome) → meaning m′ ≡ outcomeQueues o
-      → closedAnswer (replayAnswer (replayedBy o lost bytes p)) (listed (length out) (length (shown o))) (length (written out 0 (shown o))) ≡ listed (length out) (length (textFor (replayedBy o lost bytes p) n))
-  unfolding closedAnswer numbersOf replayAnswer replayAnswerBy replayedBy outcomeQueues textFor textBy
-  answer-by (refused k) e = ap (λ (z : ℕ). listed z (length (refusal k))) (length-written out 0 (listing (meaning m′) 0 0 n))
-  answer-by (left qs) e = ap (λ (q : List Queue). listed (length out) (length (listing q bytes p n))) e
+  abbrev marks : List ℕ
+  marks = shiftLines shifts
 
-  text-by : (o : Outcome) → meaning m′ ≡ outcomeQueues o → closedText (replayAnswer (replayedBy o lost bytes p)) (written out 0 (shown o)) ≡ written out 0 (textFor (replayedBy o lost bytes p) n)
-  unfolding closedText numbersOf replayAnswer replayAnswerBy replayedBy outcomeQueues textFor textBy
+  abbrev text : Outcome → List ℕ
+  text o = textFor (replayedBy o lost bytes p) (listedBy o shifts) n
+
+  answer-by : (o : Outcome) → meaning m′ ≡ outcomeQueues o
+      → closedAnswer (replayAnswer (replayedBy o lost bytes p)) (bothTold out marks (shown o)) (length (bothIn out marks (shown o))) ≡ listed (length out) (length (text o))
+  unfolding closedAnswer numbersOf replayAnswer replayAnswerBy replayedBy outcomeQueues textFor textBy listedBy
+  answer-by (refused k) e = ap (λ (z : ℕ). listed z (length (refusal k))) (both-long out marks (listing (meaning m′) 0 0 n))
+  answer-by (left qs) e =
+      both-answer out marks (listing (meaning m′) bytes p n) ∙ ap (λ (q : List Queue). listed (length out) (length (marks ++ listing q bytes p n))) e
+
+  text-by : (o : Outcome) → meaning m′ ≡ outcomeQueues o → closedText (replayAnswer (replayedBy o lost bytes p)) (bothIn out marks (shown o)) ≡ written out 0 (text o)
+  unfolding closedText numbersOf replayAnswer replayAnswerBy replayedBy outcomeQueues textFor textBy listedBy
   text-by (refused k) e =
-      ap (λ (z : ℕ). written (zeros z) 0 (refusal k)) (length-written out 0 (listing (meaning m′) 0 0 n)) ∙ ap (λ (s : List ℕ). written s 0 (refusal k)) (sym clear)
-  text-by (left qs) e = ap (λ (q : List Queue). written out 0 (listing q bytes p n)) e
+      ap (λ (z : ℕ). written (zeros z) 0 (refusal k)) (both-long out marks (listing (meaning m′) 0 0 n)) ∙ ap (λ (s : List ℕ). written s 0 (refusal k)) (sym clear)
+  text-by (left qs) e = both-wrote out marks (listing (meaning m′) bytes p n) .buffer ∙ ap (λ (q : List Queue). written out 0 (marks ++ listing q bytes p n)) e
 
 zero-scratch : (log s s′ : List ℕ) → logRefused log ≡ false → s′ ≡ replayScratch log s → s′ ≡ zeros (length s)
 unfolding replayScratch
@@ -115,9 +143,11 @@ zero-scratch log s s′ legal e = subst (λ (b : Bool). s′ ≡ cond b s (zeros
 
 pub card-kept : (input scratch ns ps ks t out : List ℕ) (a : ReplayAnswer) (scratch′ ns′ ps′ : List ℕ) (es′ : List RecordEntry) (ks′ t′ : List ℕ) → logRefused input ≡ false
     → 1024 ≤ length ks → out ≡ zeros (length out) → ReplayKept input scratch (lentTo ns ps t) ks a scratch′ (memory ns′ ps′ es′ t′) ks′
-    → CardKept input scratch ns ps ks t out (closedAnswer a (listed (length out) (length (shownIn a (memory ns′ ps′ es′ t′) (length input)))) (length (written out 0 (shownIn a (memory ns′ ps′ es′ t′) (length input)))))
-    scratch′ ns′ ps′ ks′ t′ (closedText a (written out 0 (shownIn a (memory ns′ ps′ es′ t′) (length input))))
-unfolding textIn replayCall
+    → CardKept input scratch ns ps ks t out
+    (closedAnswer a (bothTold out (marksText input (length scratch′)) (shownIn a (memory ns′ ps′ es′ t′) (length input)))
+    (length (bothIn out (marksText input (length scratch′)) (shownIn a (memory ns′ ps′ es′ t′) (length input)))))
+    (zeros (length scratch′)) ns′ ps′ ks′ t′ (closedText a (bothIn out (marksText input (length scratch′)) (shownIn a (memory ns′ ps′ es′ t′) (length input))))
+unfolding textIn replayCall marksListed
 card-kept input scratch ns ps ks t out a scratch′ ns′ ps′ es′ ks′ t′ legal long clear k =
     let m : Memory = lentTo ns ps t in
     let m′ : Memory = memory ns′ ps′ es′ t′ in
@@ -129,12 +159,15 @@ card-kept input scratch ns ps ks t out a scratch′ ns′ ps′ es′ ks′ t′
     let w : QueuesReplayed input scratch m a scratch′ m′ = as-replayed input scratch scratch′ ns ps ks t m′ ks′ a long k in
     let e : a ≡ replayAnswer (replayedBy o lost bytes p) = answers input scratch scratch′ m m′ a legal w in
     let l : Leaves m m′ (outcomeQueues o) = leaves input scratch scratch′ m m′ a legal w in
+    let z : length scratch′ ≡ length scratch = ap length (zero-scratch input scratch scratch′ legal (w .scratch-left)) ∙ length-replicate {A = ℕ} (length scratch) 0 in
+    let shifts : List ℕ = marksIn (readings input (length scratch)) in
     record {
       answer =
-          ap (λ (x : ReplayAnswer). closedAnswer x (listed (length out) (length (shownIn x m′ n))) (length (written out 0 (shownIn x m′ n)))) e
-          ∙ answer-by out clear m′ lost bytes p n o (l .means);
-      text-left = ap (λ (x : ReplayAnswer). closedText x (written out 0 (shownIn x m′ n))) e ∙ text-by out clear m′ lost bytes p n o (l .means);
-      scratch-left = zero-scratch input scratch scratch′ legal (w .scratch-left);
+          ap₂ (λ (x : ReplayAnswer) (i : ℕ). closedAnswer x (bothTold out (marksText input i) (shownIn x m′ n)) (length (bothIn out (marksText input i) (shownIn x m′ n)))) e z
+          ∙ answer-by out clear shifts m′ lost bytes p n o (l .means);
+      text-left =
+          ap₂ (λ (x : ReplayAnswer) (i : ℕ). closedText x (bothIn out (marksText input i) (shownIn x m′ n))) e z ∙ text-by out clear shifts m′ lost bytes p n o (l .means);
+      scratch-left = ap zeros z;
       entries = es′;
       memory-left = l;
       largest-left = table-left input scratch scratch′ ns ps ks t m′ ks′ a legal long k;

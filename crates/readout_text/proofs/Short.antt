@@ -7,7 +7,7 @@ use mathlib.Core.List.{List, [], _∷_}
 use Prim.Native.Nat.{ℕ, _*_, _≤_, _<_, _^_}
 use native.Mathlib.Omega.{arith}
 use lib.Dec.{ltb, leb}
-use lib.ListN.{length, length-replicate}
+use lib.ListN.{length, length-append, length-replicate}
 use borrow.Author.Tests.{ltb-false, leb-true, le-leb}
 use Rattle.slices.specs.Bytes.{Bytes, zeros}
 use Rattle.frame.specs.Block.{blocks}
@@ -18,31 +18,33 @@ use Rattle.calls.specs.Reading.{readings, lostIn}
 use Rattle.calls.specs.Lost.{lostBytes}
 use Rattle.calls.specs.Claims.{queuesArranged}
 use Rattle.calls.specs.Replay.{Outcome, refused, left, replayOf, replayedBy, replayCall}
+use Rattle.calls.specs.Desks.{marksIn, listedBy, marksListed}
 use Rattle.calls.proofs.Passed.{log-taken}
 use Rattle.calls.proofs.Chain.{or-left, or-right}
 use Rattle.lost_bytes.proofs.Within.{lost-within}
 use Rattle.calls.proofs.Numbers.{replay-never-six}
 use Rattle.calls.proofs.AnyLog.{replayed-arranged, resumes-in-log}
+use Rattle.calls.proofs.Marks.{marks-bound, marks-fit}
 use Rattle.listing.specs.declared.Listed.the-variants.{Bytes as bytes, NoRoom as noRoom}
 use Rattle.listing.specs.Digits.{digit, decimalIn, decimal}
 use Rattle.listing.specs.Writing.{listed}
-use Rattle.listing.specs.Listing.{numbered, numberLine, refusal}
+use Rattle.listing.specs.Listing.{shiftLines, numbered, numberLine, listing, refusal}
 use Rattle.listing.specs.Claims.{LogFits}
 use Rattle.listing.proofs.Writes.{length-written}
-use Rattle.listing.proofs.Bounds.{listing-short}
+use Rattle.listing.proofs.Bounds.{shifts-short, listing-short}
 use Rattle.readout_text.specs.Card.{textBy, textFor, textIn, readoutRoom, readoutScratch, sizedText, notSized, cardText}
 use Rattle.readout_text.specs.Claims.{CardShort, NeverNoRoom, InTheBuffer}
 use Rattle.readout_text.proofs.Sizes.{log-sized}
 
 -- ---- a refusal of replay
 
-refusal-short : (k : ℕ) → (k ≡ 11) ⊎ ((k ≡ 12) ⊎ (k ≡ 14)) → length (refusal k) ≤ 167461
+refusal-short : (k : ℕ) → (k ≡ 11) ⊎ ((k ≡ 12) ⊎ (k ≡ 14)) → length (refusal k) ≤ 420235
 unfolding refusal numberLine numbered decimal decimalIn digit
-refusal-short k (inl e) = subst (λ (n : ℕ). length (refusal n) ≤ 167461) (sym e) (let l : length (refusal 11) ≡ 11 = refl in omega (arith, l))
-refusal-short k (inr (inl e)) = subst (λ (n : ℕ). length (refusal n) ≤ 167461) (sym e) (let l : length (refusal 12) ≡ 11 = refl in omega (arith, l))
-refusal-short k (inr (inr e)) = subst (λ (n : ℕ). length (refusal n) ≤ 167461) (sym e) (let l : length (refusal 14) ≡ 11 = refl in omega (arith, l))
+refusal-short k (inl e) = subst (λ (n : ℕ). length (refusal n) ≤ 420235) (sym e) (let l : length (refusal 11) ≡ 11 = refl in omega (arith, l))
+refusal-short k (inr (inl e)) = subst (λ (n : ℕ). length (refusal n) ≤ 420235) (sym e) (let l : length (refusal 12) ≡ 11 = refl in omega (arith, l))
+refusal-short k (inr (inr e)) = subst (λ (n : ℕ). length (refusal n) ≤ 420235) (sym e) (let l : length (refusal 14) ≡ 11 = refl in omega (arith, l))
 
-first-short : length (refusal 1) ≤ 167461
+first-short : length (refusal 1) ≤ 420235
 unfolding refusal numberLine numbered decimal decimalIn digit
 first-short = let l : length (refusal 1) ≡ 10 = refl in omega (arith, l)
 
@@ -67,8 +69,18 @@ module _ (input : List ℕ) (b : Bytes input) (h : 32768 ≤ length input) (k : 
       let p : place-here ≤ blocks input * 32768 = resumes-in-log input readoutScratch (t .some) in
       record { a-block = h; few-blocks = t .most; inside = omega (arith, p) }
 
-  text-short : (o : Outcome) → replayOf input readoutRoom readoutScratch ≡ o → length (textFor (replayedBy o (lostIn (readings input readoutScratch)) lost-here place-here) (length input)) ≤ 167461
-  unfolding textFor textBy replayedBy queuesArranged
+  abbrev shifts-here : List ℕ
+  shifts-here = marksIn (readings input readoutScratch)
+
+  few-marks : length (shiftLines shifts-here) ≤ 252774
+  few-marks =
+      let q : length shifts-here ≤ blocks input * 4681 = marks-bound input readoutScratch in
+      let m : blocks input ≤ 2 = omega (arith, k) in
+      omega (arith, shifts-short shifts-here (marks-fit input readoutScratch b), q, m)
+
+  text-short : (o : Outcome) → replayOf input readoutRoom readoutScratch ≡ o
+      → length (textFor (replayedBy o (lostIn (readings input readoutScratch)) lost-here place-here) (listedBy o shifts-here) (length input)) ≤ 420235
+  unfolding textFor textBy replayedBy queuesArranged listedBy
   text-short (refused n) e = refusal-short n (replay-never-six input readoutRoom readoutScratch .others (log-sized input h k) n e)
   text-short (left qs) e =
       let q1 : Bool = leb (length qs) 64 in
@@ -79,17 +91,19 @@ module _ (input : List ℕ) (b : Bytes input) (h : 32768 ≤ length input) (k : 
       let w1 : q1 && (q2 && (q3 && q4)) ≡ true = and-right (inOrder qs) (q1 && (q2 && (q3 && q4))) w in
       let w2 : q2 && (q3 && q4) ≡ true = and-right q1 (q2 && (q3 && q4)) w1 in
       let w3 : q3 && q4 ≡ true = and-right q2 (q3 && q4) w2 in
+      let s : length (listing qs lost-here place-here (length input)) ≤ 167461 =
       listing-short qs lost-here place-here (length input) (and-left (inOrder qs) (q1 && (q2 && (q3 && q4))) w)
       (leb-true (length qs) 64 (and-left q1 (q2 && (q3 && q4)) w1)) (leb-true (recordCount qs) 1024 (and-left q3 q4 w3))
-      (leb-true (nameBytes qs) 32768 (and-left q2 (q3 && q4) w2)) (leb-true (payloadBytes qs) 32768 (and-right q3 q4 w3)) few-lost fits
+      (leb-true (nameBytes qs) 32768 (and-left q2 (q3 && q4) w2)) (leb-true (payloadBytes qs) 32768 (and-right q3 q4 w3)) few-lost fits in
+      omega (arith, length-append (shiftLines shifts-here) (listing qs lost-here place-here (length input)), few-marks, s)
 
-  sized-short : length (sizedText input) ≤ 167461
-  unfolding sizedText textIn replayCall
+  sized-short : length (sizedText input) ≤ 420235
+  unfolding sizedText textIn replayCall marksListed
   sized-short = text-short (replayOf input readoutRoom readoutScratch) refl
 
 -- ---- every card
 
-short-on : (input : List ℕ) → Bytes input → (s : Bool) → notSized input ≡ s → length (cond s (refusal 1) (sizedText input)) ≤ 167461
+short-on : (input : List ℕ) → Bytes input → (s : Bool) → notSized input ≡ s → length (cond s (refusal 1) (sizedText input)) ≤ 420235
 unfolding notSized
 short-on input b true e = first-short
 short-on input b false e =

@@ -1,27 +1,28 @@
--- Definition (01, "Readout").
+-- Definition (01, "Readout"; 02, Ticket 11).
 -- 01, "Readout": the text that is printed for the bytes of an input.
 -- Assumes nothing.
 use mathlib.Core.Bool.{Bool, cond, _||_}
-use mathlib.Core.List.{List}
+use mathlib.Core.List.{List, _++_}
 use Prim.Native.Nat.{ℕ}
 use lib.Dec.{ltb}
 use lib.ListN.{length}
 use Rattle.queues.specs.Queues.{Capacities}
 use Rattle.calls.specs.Replay.{Outcome, refused, left, Replayed, replayCall}
-use Rattle.listing.specs.Listing.{listing, refusal}
+use Rattle.calls.specs.Desks.{marksListed}
+use Rattle.listing.specs.Listing.{shiftLines, listing, refusal}
 
--- "A refusal prints only `refused` and the number"; else what is listed, for a log of n bytes
-unfoldable pub textBy : Outcome → ℕ → ℕ → ℕ → List ℕ
-textBy (refused k) lost resumed n = refusal k
-textBy (left qs) lost resumed n = listing qs lost resumed n
+-- "A refusal prints only `refused` and the number"; else the marks, "above the `queues` line", and what is listed, for a log of n bytes
+unfoldable pub textBy : Outcome → List ℕ → ℕ → ℕ → ℕ → List ℕ
+textBy (refused k) shifts lost resumed n = refusal k
+textBy (left qs) shifts lost resumed n = shiftLines shifts ++ listing qs lost resumed n
 
 -- `lost` is the sum of bytes over the reading: "It replaces the count of corruption answers" (02, Ticket 7)
-unfoldable pub textFor : Replayed → ℕ → List ℕ
-textFor x n = textBy (x .outcome) (x .lost-bytes) (x .resumed) n
+unfoldable pub textFor : Replayed → List ℕ → ℕ → List ℕ
+textFor x shifts n = textBy (x .outcome) shifts (x .lost-bytes) (x .resumed) n
 
--- the text for a log, with memory that can hold c and this many bytes of scratch
+-- the text for a log, with memory that can hold c and this many bytes of scratch; its marks "in log order"
 unfoldable pub textIn : List ℕ → Capacities → ℕ → List ℕ
-textIn log c limit = textFor (replayCall log c limit) (length log)
+textIn log c limit = textFor (replayCall log c limit) (marksListed log c limit) (length log)
 
 -- "with 65,536 bytes of scratch, 64 queues, 1,024 records, 32,768 payload bytes and 32,768 name bytes"
 abbrev pub readoutScratch : ℕ

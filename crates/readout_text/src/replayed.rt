@@ -1,4 +1,4 @@
-// Replay of a log, and the listing of the queues that it leaves.
+// Replay of a log, its marks, and the listing of the queues that it leaves.
 ghost use mathlib.Core.Path.{_≡_};
 ghost use mathlib.Core.Bool.{false};
 ghost use Prim.Native.Nat.{_≤_};
@@ -12,6 +12,7 @@ use listing::Listed;
 use listing::list;
 use mem_entries::blank;
 use replay::replay;
+use shift_lines::put_shifts;
 
 // The text for a log of 1 to 4,096 blocks, in a buffer of zeros. The further table is as long as the record table that is kept here.
 pub fn list_replayed(
@@ -41,6 +42,7 @@ pub fn list_replayed(
         table,
     );
     let numbers = numbers_of(answer);
+    let at = put_shifts(input, scratch, out);
     let listed = list(
         names,
         payloads,
@@ -50,6 +52,7 @@ pub fn list_replayed(
         numbers.resumed,
         input.len(),
         out,
+        at,
     );
     close_card(answer, listed, out)
 }

@@ -3,7 +3,7 @@
 use listing::Listed;
 
 fn list(card: &[u8]) {
-    let mut out = [0u8; 167461];
+    let mut out = [0u8; 420235];
     let Listed::Bytes(n) = readout_text::list_card(card, &mut out) else {
         return;
     };

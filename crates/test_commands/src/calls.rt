@@ -149,7 +149,7 @@ fn call(
 }
 
 // CRC-32 of each memory that is lent, and the write position.
-struct Sums {
+pub struct Sums {
     log: u64,
     place: usize,
     scratch: u64,
@@ -174,7 +174,7 @@ fn no_sums() -> Sums {
 }
 
 // All 0 where they are not asked for.
-fn sums_of(
+pub fn sums_of(
     asked: bool,
     log: &[u8],
     place: usize,
@@ -211,7 +211,7 @@ fn same(a: Sums, b: Sums) -> bool {
         && a.table == b.table
 }
 
-fn show_same(asked: bool, old: Sums, new: Sums) {
+pub fn show_same(asked: bool, old: Sums, new: Sums) {
     if asked {
         if same(old, new) {
             text(b" same");

@@ -54,6 +54,8 @@ pub const SCRATCH: u8 = 25;
 
 pub const LOG: u8 = 26;
 
+pub const MARK: u8 = 27;
+
 // The number where the line is that command, else the other one.
 fn or(line: &[u8], text: &[u8], kind: u8, other: u8) -> u8 {
     if is_command(line, text) { kind } else { other }
@@ -63,7 +65,8 @@ fn calls(line: &[u8]) -> u8 {
     let k = or(line, b"create", CREATE, 0);
     let k = or(line, b"delete", DELETE, k);
     let k = or(line, b"truncate", TRUNCATE, k);
-    or(line, b"append", APPEND, k)
+    let k = or(line, b"append", APPEND, k);
+    or(line, b"mark", MARK, k)
 }
 
 fn looks(line: &[u8], other: u8) -> u8 {

@@ -9,6 +9,7 @@
 //   create NAME, delete NAME, truncate NAME through P, append NAME payloads N bytes N [sum N] [even] [seed N] [at P]
 //                         the answer, with the sum of the two counts of bytes; with the word `counts` both of them, frame bytes + padding bytes; with the word
 //                         `same` at the end also whether all that is lent is left as it was
+//   mark shift N clock N  the same of a mark, which names no queue
 //   positions NAME, first NAME [after P], ranges NAME from P to P, largest NAME, queues
 //                         questions: the first record of a queue; that of nine ranges; its largest payload; all queues with their records
 //   replay, reopen, reads   replay; replay and all queues; all reads up to the end of the log. Writing goes on where a replay resumes
@@ -30,6 +31,7 @@ mod calls;
 mod changes;
 mod kinds;
 mod lines;
+mod marks;
 mod questions;
 mod reads;
 mod replays;

@@ -15,6 +15,7 @@ use crate::kinds::APPEND;
 use crate::kinds::CREATE;
 use crate::kinds::FILL;
 use crate::kinds::KEEP;
+use crate::kinds::LOG;
 use crate::kinds::MOVE;
 use crate::kinds::QUEUES;
 use crate::kinds::READS;
@@ -23,6 +24,7 @@ use crate::kinds::SOIL;
 use crate::kinds::STAIN;
 use crate::kinds::START;
 use crate::kinds::kind_of;
+use crate::marks::do_mark;
 use crate::questions::ask;
 use crate::replays::look;
 use crate::shows::print;
@@ -114,7 +116,7 @@ fn do_text(line: &[u8]) {
     text(line);
 }
 
-// Sets, changes or shows something, by kind.
+// Sets, changes or shows something, or writes a mark, by kind.
 fn do_simple(
     log: &mut [u8],
     at: &mut usize,
@@ -131,8 +133,10 @@ fn do_simple(
         set(log, at, scratch, largest, table, kind, line);
     } else if kind <= FILL {
         change(log, kind, bytes, line);
-    } else {
+    } else if kind <= LOG {
         show(log, *at, scratch, table, kind);
+    } else {
+        do_mark(log, at, scratch, line);
     }
 }
 

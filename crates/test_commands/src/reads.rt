@@ -64,6 +64,13 @@ fn show_decoded(s: &[u8], r: MultiPlexedRecord) {
             say_head(b"read append ", s, position, name_start, name_len);
             show_items(s, items);
         }
+        MultiPlexedRecord::Mark {
+            position,
+            body_start,
+        } => {
+            say(b"read mark ", position);
+            say_part(b" body ", s, body_start, 8);
+        }
         MultiPlexedRecord::None => {}
     }
 }

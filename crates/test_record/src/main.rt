@@ -98,6 +98,10 @@ fn print_record(s: &[u8], r: MultiPlexedRecord) {
             print_part(b"append", position, name_start, name_len);
             print_items(s, items);
         }
+        MultiPlexedRecord::Mark {
+            position,
+            body_start,
+        } => print_part(b"mark", position, body_start, 8),
         MultiPlexedRecord::None => say(b"none"),
     }
 }
@@ -227,6 +231,43 @@ fn items() {
     );
 }
 
+// Marks: a body of 8 bytes, the numbers 0 and 2^64-1; bodies of 7, 9 and no bytes; a name of one byte with 8 and with 7 bytes
+// after it; types 1 and 6 in the form of a mark.
+fn marks() {
+    run_list(
+        b"\x13\x05\x07\0\0\0\0\0\0\0\0\0\x01\x02\x03\x04\x05\x06\x07\x08mark 7 11 8;\
+          \x13\x05\0\0\0\0\0\0\0\0\0\0\0\0\0\0\0\0\0\0mark 0 11 8;\
+          \x13\x05\xff\xff\xff\xff\xff\xff\xff\xff\0\0\xff\xff\xff\xff\xff\xff\xff\xffmark 18446744073709551615 11 8;\
+          \x12\x05\x07\0\0\0\0\0\0\0\0\0\x01\x02\x03\x04\x05\x06\x07none;\
+          \x14\x05\x07\0\0\0\0\0\0\0\0\0\x01\x02\x03\x04\x05\x06\x07\x08\x09none;\
+          \x0b\x05\x07\0\0\0\0\0\0\0\0\0none;\
+          \x14\x05\x07\0\0\0\0\0\0\0\x01\0a\x01\x02\x03\x04\x05\x06\x07\x08none;\
+          \x13\x05\x07\0\0\0\0\0\0\0\x01\0a\x01\x02\x03\x04\x05\x06\x07none;\
+          \x13\x01\x07\0\0\0\0\0\0\0\0\0\x01\x02\x03\x04\x05\x06\x07\x08truncate 7 11 0;\
+          \x13\x06\x07\0\0\0\0\0\0\0\0\0\x01\x02\x03\x04\x05\x06\x07\x08none;",
+    );
+}
+
+// A mark with the clock reading in little-endian bytes.
+fn run_mark(s: &mut [u8], should: &[u8]) {
+    let written = record::put_mark(s, 7, 513);
+    say(b"mark: ");
+    print_written(written);
+    say(b" ");
+    print_bytes(s);
+    print_should(should);
+}
+
+// Into bytes of ee hex: one too few, just enough, and one to spare.
+fn mark_writes() {
+    let mut a = [0xeeu8; 18];
+    run_mark(&mut a, b"nothing eeeeeeeeeeeeeeeeeeeeeeeeeeeeeeeeeeee");
+    let mut b = [0xeeu8; 19];
+    run_mark(&mut b, b"until 19 05070000000000000000000102000000000000");
+    let mut c = [0xeeu8; 20];
+    run_mark(&mut c, b"until 19 05070000000000000000000102000000000000ee");
+}
+
 fn run_step(s: &[u8], start: usize, end: usize, should: &[u8]) {
     say(b"step");
     print_number(start as u64);
@@ -336,4 +377,6 @@ fn main() {
     steps();
     writes();
     lengths();
+    marks();
+    mark_writes();
 }

@@ -279,7 +279,7 @@ impl<'a> List<'a> {
         self.commands.push("reads".to_string());
         for answer in self.answers().0 {
             let line = match answer {
-                Reading::End => unreachable!(),
+                Reading::End | Reading::Mark(_) => unreachable!(),
                 Reading::Corrupt(Corruption::Checksum) => "read wrong checksum".to_string(),
                 Reading::Corrupt(Corruption::FrameType) => "read unknown type".to_string(),
                 Reading::Corrupt(Corruption::Length) => "read length past the block".to_string(),

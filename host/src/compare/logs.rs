@@ -5,7 +5,7 @@ use crate::frames;
 use crate::layout;
 use crate::machine::{self, Machine, Room};
 use crate::oracle::{Folder, LogReader, Oracle};
-use crate::plain::{Call, Queues, Reader, Reading, Type, BLOCK, LAST};
+use crate::plain::{seen_before, Call, Queues, Reader, Reading, Type, BLOCK, LAST};
 use crate::port::{self, Memory, Port, ENTRIES};
 use crate::random::Random;
 
@@ -91,7 +91,7 @@ fn read_from(case: &Log, from: Reader, tally: &mut Tally) -> Checked {
             }
         };
         same("answer", &answer, &Ok(reading.clone()))?;
-        same("answer of the Rust", &rust.read(), &reading)?;
+        same("answer of the Rust", &rust.read(), &seen_before(reading.clone()))?;
         same("reader", &reader, &plain)?;
         same("reader of the Rust", &rust.state(), &plain)?;
         same_bytes("record in the scratch", &scratch[..record.len()], &record)?;
@@ -154,12 +154,22 @@ fn replay(case: &Log, folder: &Folder, tally: &mut Tally) -> Checked {
         tally.count("replays set aside");
         return Ok(());
     }
-    same("count and resume point of the Rust", &rust_counts(&case.log), &(lost, resumed))?;
+    let marks = marks(&case.log, case.scratch);
+    if marks > 0 {
+        tally.count("logs with marks");
+    }
+    same("count and resume point of the Rust, each mark counted", &rust_counts(&case.log), &(lost + marks, resumed))?;
     folder.fill(&case.log);
     let mut rust = Oracle::open(folder).ok_or("the Rust does not open the log")?;
     same("queues of the Rust", &rust.queues(), &queues)?;
     port.write_position = resumed as usize;
     follow(&mut port, &mut rust, folder, Machine { list: vec![], queues, place: resumed as usize }, case, tally)
+}
+
+/// The marks of a log whose reading meets no 11.
+fn marks(log: &[u8], scratch: usize) -> u64 {
+    let readings = frames::read_all(log, scratch).0.unwrap_or_default();
+    readings.iter().filter(|reading| matches!(reading, Reading::Mark(_))).count() as u64
 }
 
 /// Corruption count and resume point by the Rust's reader.
@@ -170,7 +180,7 @@ fn rust_counts(log: &[u8]) -> (u64, u64) {
         match reader.read() {
             Reading::End => return (lost, reader.state().place()),
             Reading::Corrupt(_) => lost += 1,
-            Reading::Record(_) => (),
+            Reading::Record(_) | Reading::Mark(_) => (),
         }
     }
 }
