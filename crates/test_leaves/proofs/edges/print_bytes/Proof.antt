@@ -1,11 +1,11 @@
--- `test_utf8::print_bytes` is safe and ends.
+-- `test_leaves::edges::print_bytes` is safe and ends.
 -- Assumes nothing.
 use Prim.Native.Nat.{_≤_, _-_}
 use native.Mathlib.Omega.{arith}
 use borrow.Author.Needs.{needs}
 use lib.ListN.{length}
-use Rattle.test_utf8.proofs.print_bytes.Statement.{statement}
-use Rattle.test_utf8.proofs.print_bytes.Tie as tie
+use Rattle.test_leaves.proofs.edges.print_bytes.Statement.{statement}
+use Rattle.test_leaves.proofs.edges.print_bytes.Tie as tie
 
 abbrev Inv-loop : tie.InvT-loop
 Inv-loop name i₀ i = i ≤ length name

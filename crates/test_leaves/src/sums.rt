@@ -76,7 +76,8 @@ fn runs(table: &[u32])
     );
 }
 
-fn main() {
+// All of them.
+pub fn run() {
     let mut table = [0u32; 4096];
     crc32_frame::fill_table(&mut table);
     texts(&table);

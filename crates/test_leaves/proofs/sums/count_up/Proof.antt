@@ -1,12 +1,12 @@
--- `test_crc::count_up` is safe and ends.
+-- `test_leaves::sums::count_up` is safe and ends.
 -- Assumes nothing.
 use mathlib.Core.Path.{_≡_}
 use Prim.Native.Nat.{_-_, _≤_}
 use native.Mathlib.Omega.{arith}
 use borrow.Author.Needs.{needs}
 use lib.ListN.{length, length-set}
-use Rattle.test_crc.proofs.count_up.Statement.{statement}
-use Rattle.test_crc.proofs.count_up.Tie as tie
+use Rattle.test_leaves.proofs.sums.count_up.Statement.{statement}
+use Rattle.test_leaves.proofs.sums.count_up.Tie as tie
 
 abbrev Inv-loop : tie.InvT-loop
 Inv-loop s₀ i₀ s i = (length s ≡ length s₀) × (i ≤ length s₀)

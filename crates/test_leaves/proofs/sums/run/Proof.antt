@@ -1,4 +1,4 @@
--- `test_crc::main` is safe: its table has 4,096 entries, so it is filled.
+-- `test_leaves::sums::run` is safe: its table has 4,096 entries, so it is filled.
 -- Assumes nothing.
 use mathlib.Core.Path.{_≡_}
 use mathlib.Core.List.{List}
@@ -7,8 +7,8 @@ use borrow.Author.Needs.{needs}
 use lib.ListN.{replicate, length-replicate}
 use Rattle.crc32.specs.Wide.{TableReady, filled}
 use Rattle.crc32.proofs.Entries.{filled-ready}
-use Rattle.test_crc.proofs.main.Statement.{statement}
-use Rattle.test_crc.proofs.main.Tie as tie
+use Rattle.test_leaves.proofs.sums.run.Statement.{statement}
+use Rattle.test_leaves.proofs.sums.run.Tie as tie
 
 ready : (t : List ℕ) → t ≡ filled (replicate 4096 0) → TableReady t
 ready t = filled-ready (replicate 4096 0) t (length-replicate {A = ℕ} 4096 0)
@@ -34,8 +34,8 @@ runs-requires c κs = ready _ (c .before .before .before .before .fill-table .en
 returns : tie.Need-returns
 returns c = search needs
 
-pub main-spec : {M : Type 1} → statement M
-main-spec =
+pub run-spec : {M : Type 1} → statement M
+run-spec =
     tie.close
     (tie.spec
     slice-aggregate-fill-table

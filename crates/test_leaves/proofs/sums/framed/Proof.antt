@@ -1,10 +1,10 @@
--- `test_crc::framed` is safe: a part of no entries is an empty table.
+-- `test_leaves::sums::framed` is safe: a part of no entries is an empty table.
 -- Assumes nothing.
 use mathlib.Core.Path.{refl}
 use mathlib.Core.Logic.{inl}
 use borrow.Author.Needs.{needs}
-use Rattle.test_crc.proofs.framed.Statement.{statement}
-use Rattle.test_crc.proofs.framed.Tie as tie
+use Rattle.test_leaves.proofs.sums.framed.Statement.{statement}
+use Rattle.test_leaves.proofs.sums.framed.Tie as tie
 
 slice-aggregate-value : tie.Need-slice-aggregate-value
 slice-aggregate-value c = search needs

@@ -188,7 +188,8 @@ fn long_names() {
     run_long(998, 0x61, 0x80, false);
 }
 
-fn main() {
+// All of them.
+pub fn run_edges() {
     up_to_three_bytes();
     four_bytes();
     broken();

@@ -1,11 +1,11 @@
--- `test_utf8::run` is safe and ends: each name moves it on.
+-- `test_leaves::edges::run` is safe and ends: each name moves it on.
 -- Assumes nothing.
 use Prim.Native.Nat.{_-_}
 use native.Mathlib.Omega.{arith}
 use borrow.Author.Needs.{needs}
 use lib.ListN.{length}
-use Rattle.test_utf8.proofs.run.Statement.{statement}
-use Rattle.test_utf8.proofs.run.Tie as tie
+use Rattle.test_leaves.proofs.edges.run.Statement.{statement}
+use Rattle.test_leaves.proofs.edges.run.Tie as tie
 
 abbrev Inv-loop : tie.InvT-loop
 Inv-loop list at₀ at = Unit {0}
