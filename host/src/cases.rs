@@ -680,6 +680,7 @@ pub fn disarrange(random: &mut Random, memory: &mut Memory) {
     let names = word(&memory.table, 1).min(memory.names.len() as u64) as usize;
     let records = word(&memory.table, 2).min(1024) as usize;
     let table_words = 4 + 3 * queues;
+    let numbers = records.min(memory.largest.len() / 8);
     match random.below(25) {
         0 => memory.table = random.bytes(TABLE),
         1 => memory.entries = random.bytes(ENTRIES),
@@ -717,13 +718,13 @@ pub fn disarrange(random: &mut Random, memory: &mut Memory) {
             let k = random.below(8 * table_words);
             memory.table[k] = random.next() as u8;
         }
-        20 | 21 if records > 0 => {
-            let k = random.below(records);
+        20 | 21 if numbers > 0 => {
+            let k = random.below(numbers);
             let changed = number(random, word(&memory.largest, k));
             memory.largest[8 * k..8 * k + 8].copy_from_slice(&changed.to_le_bytes());
         }
-        22 => {
-            let k = random.below((8 * records + 8).min(LARGEST));
+        22 if !memory.largest.is_empty() => {
+            let k = random.below((8 * records + 8).min(memory.largest.len()));
             memory.largest[k] = random.next() as u8;
         }
         23 => {
