@@ -2,7 +2,7 @@
  * gives by a pointer are 0. A slice is a pointer and its length; no two slices may overlap, and none may be null, also where its length is 0.
  *
  * Lent to each call: the log, the scratch, and the queue memory: names, payloads, the record table `entries`, the further table `largest` and the table of queues
- * `table`. The tables may have any length. Of `entries` the whole entries of 24 bytes count, at most 1,024; of `largest` the whole numbers of 8 bytes, at most 1,024;
+ * `table`. The tables may have any length. Of `entries` the whole entries of 32 bytes count, at most 1,024; of `largest` the whole numbers of 8 bytes, at most 1,024;
  * of `table` the whole words of 8 bytes, at most 196, which are 4 and 3 for each queue; what lies behind them is never touched. A record, a queue, a name or a payload
  * for which there is no room is refused 12. docs/LAYOUT.md gives the layout of the tables, and says when the memory is arranged (refusal 6): what replay or a call
  * left, lent again unchanged, always is. Queue memory of zeros holds no queues. A further table with fewer numbers than `entries` has entries is 6 for every call,
@@ -32,7 +32,7 @@ extern "C" {
 #define MRECORDLOG_MAX_PAYLOADS 128
 #define MRECORDLOG_MAX_QUEUES 64
 #define MRECORDLOG_MAX_RECORDS 1024
-#define MRECORDLOG_ENTRIES_LEN(records) (24 * (size_t)(records))
+#define MRECORDLOG_ENTRIES_LEN(records) (32 * (size_t)(records))
 #define MRECORDLOG_LARGEST_LEN(records) (8 * (size_t)(records))
 #define MRECORDLOG_TABLE_LEN(queues) (8 * (4 + 3 * (size_t)(queues)))
 

@@ -2,12 +2,12 @@
 from walks import F, Rules, Walk
 from mem_sweep import entry_at_shared as entry_at, store_entry
 P, SH = 'Rattle.abi_entries.proofs.PackRules', 'Rattle.abi_entries.proofs.SharedRules'
-NEED = '24 * length entries ≤ length bytes'
+NEED = '32 * length entries ≤ length bytes'
 room_in = lambda kind, rules: F('room_in', [('bytes', kind, 'u8')], 'usize', 'roomIn bytes', crate='abi_entries', rules=rules)
 few_in = F('few_in', [('bytes', 'shr', 'u8')], 'usize', 'fewIn bytes', crate='abi_entries', rules=P)
 entries_used = F('entries_used', [('table', 'copy', 'u64'), ('room', 'plain', 'usize')], 'usize', 'entriesUsed room table', crate='abi_entries', rules=P)
-entry_from = F('entry_from', [('bytes', 'copy', 'u8'), ('i', 'plain', 'usize')], 'RecordEntry', 'entryAt bytes i', requires='24 * i + 24 ≤ length bytes', crate='abi_entries', rules=P)
-put_entry = F('put_entry', [('bytes', 'mut', 'u8'), ('i', 'plain', 'usize'), ('e', 'plain', 'RecordEntry')], 'unit', 'tt', {'bytes': 'put bytes (24 * i) (entryBytes e)'}, requires='24 * i + 24 ≤ length bytes', crate='abi_entries', rules=P)
+entry_from = F('entry_from', [('bytes', 'copy', 'u8'), ('i', 'plain', 'usize')], 'RecordEntry', 'entryAt bytes i', requires='32 * i + 32 ≤ length bytes', crate='abi_entries', rules=P)
+put_entry = F('put_entry', [('bytes', 'mut', 'u8'), ('i', 'plain', 'usize'), ('e', 'plain', 'RecordEntry')], 'unit', 'tt', {'bytes': 'put bytes (32 * i) (entryBytes e)'}, requires='32 * i + 32 ≤ length bytes', crate='abi_entries', rules=P)
 # from a held `&mut`, and from a `&`
 unpack_from = lambda kind, rules: F('unpack', [('bytes', kind, 'u8'), ('entries', 'mut', 'RecordEntry'), ('table', kind, 'u64')], 'unit', 'tt', {'entries': 'unpackTo bytes entries (entriesUsed (length entries) table)'}, requires=NEED, crate='abi_entries', rules=rules)
 pack_from = F('pack', [('entries', 'shr', 'RecordEntry'), ('bytes', 'mut', 'u8'), ('table', 'shr', 'u64')], 'unit', 'tt', {'bytes': 'packTo entries bytes (entriesUsed (length entries) table)'}, requires=NEED, crate='abi_entries', rules=P)
@@ -46,7 +46,7 @@ unpack = F('unpack', [('bytes', 'copy', 'u8'), ('entries', 'mut', 'RecordEntry')
     calls=[USED, dict(f=entry_from, **{'with': {'bytes': 'bytes', 'i': I}, 'need': '(readable less)', 'is': 'e-is', 'res': '(entryAt bytes (i .0))'}),
            dict(f=store_entry, **{'with': {'entries': 'entries', 'i': I, 'e': ('(entryAt bytes (i .0))', 'e-is')}, 'need': '(inside less)'})],
     loop=loop('entries', 'List RecordEntry', 'length-unpackTo bytes entries i', '(sym (unpack-none bytes entries))', '(unpack-one bytes entries (i .0) ∙ ap so-far (sym (one-more (i .0))))', '', '''
-          readable : Holds (ltb (i .0) count) → 24 * i .0 + 24 ≤ length bytes
+          readable : Holds (ltb (i .0) count) → 32 * i .0 + 32 ≤ length bytes
           readable less = omega (arith, ltb→lt (i .0) count less, used-most (length entries) table, need)
 
           inside : Holds (ltb (i .0) count) → i .0 < length (so-far (i .0))
@@ -63,7 +63,7 @@ pack = F('pack', [('entries', 'copy', 'RecordEntry'), ('bytes', 'mut', 'u8'), ('
           inside : Holds (ltb (i .0) count) → i .0 < length entries
           inside less = omega (arith, ltb→lt (i .0) count less, used-most (length entries) table)
 
-          storable : Holds (ltb (i .0) count) → 24 * i .0 + 24 ≤ length (so-far (i .0))
+          storable : Holds (ltb (i .0) count) → 32 * i .0 + 32 ≤ length (so-far (i .0))
           storable less = omega (arith, ltb→lt (i .0) count less, used-most (length entries) table, need, so-far-length (i .0) (i .1))
 '''), uses=USES)
 RULES = [('PackRules', 'A call rule for each function between the two forms of the record table, in the form of EntryRules. The bytes and the table of queues of `unpack` are lent from a `&mut`.',

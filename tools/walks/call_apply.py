@@ -16,16 +16,16 @@ held = F('held', [('words', 'shr', 'u64')], 'Held', 'heldIn words', crate='mem_n
 copy_part = F('copy_part', [('bytes', 'mut', 'u8'), ('low', 'plain', 'usize')] + SOURCE, 'unit', 'tt', {'bytes': 'put bytes low ' + PART}, requires='%s × (low + len ≤ length bytes)' % INSIDE, crate='mem_rows', path='parts.copy_part', rules=D)
 table_push = F('table_push', [('words', 'mut', 'u64'), ('queue', 'plain', 'usize'), ('position', 'plain', 'u64'), ('count', 'plain', 'usize')], 'unit', 'tt', {'words': 'tablePushed words queue position count'}, requires='PushCounts words queue position count', crate='mem_rows', rules=D)
 item_step = F('item_step', [('scratch', 'copy', 'u8'), ('items', 'plain', 'MultiRecord'), ('queue', 'plain', 'usize'), ('room', 'plain', 'usize'), ('bytes', 'plain', 'usize'), ('table', 'shr', 'u64')], 'ItemStep', 'itemStep scratch items queue room bytes table', crate='call_effect', rules=D)
-PAYLOAD = '(take (step .length) (dropped (step .start) scratch))'; STEP = 'pushedIn queue (step .position) %s payloads entries table' % PAYLOAD
-ONE = TABLES + [('scratch', 'copy', 'u8'), ('queue', 'plain', 'usize'), ('step', 'plain', 'ItemStep')]; ASKS = '(step .start + step .length ≤ length scratch) × PushFits queue (step .position) %s payloads entries table' % PAYLOAD
+PAYLOAD = '(take (step .length) (dropped (step .start) scratch))'; STEP = 'pushedIn queue (step .position) %s block payloads entries table' % PAYLOAD
+ONE = TABLES + [('scratch', 'copy', 'u8'), ('queue', 'plain', 'usize'), ('block', 'plain', 'usize'), ('step', 'plain', 'ItemStep')]; ASKS = '(step .start + step .length ≤ length scratch) × PushFits queue (step .position) %s payloads entries table' % PAYLOAD
 push_next = F('push_next', ONE, 'ItemStep', 'itemStep scratch (step .rest) queue (length entries) (length payloads) (%s .table)' % STEP, {x: '%s .%s' % (STEP, x) for x in ('payloads', 'entries', 'table')}, requires=ASKS, crate='call_apply', rules=D)
 of = lambda at, row, name, flat=False: field('ItemStep', 'step', 'step-is', at, row, name, flat)
-POSITION, START, LENGTH = of(2, 'u64', 'position'), of(3, 'usize', 'start'), of(4, 'usize', 'length'); ENTRY = '(entry queue (step .position) (step .length))'
+POSITION, START, LENGTH = of(2, 'u64', 'position'), of(3, 'usize', 'start'), of(4, 'usize', 'length'); ENTRY = '(entry queue (step .position) (step .length) block)'
 sum_of = lambda at, name: field('Held', 'sums', 'sums-is', at, 'usize', name)
 AS_LONG = lambda t: 'ap (λ (n : ℕ). %s) (sym part-len)' % t
 NEXT = 'itemStep scratch (step .rest) queue (length entries) (length payloads) %s'
 push_next_walk = F('push_next', ONE, 'ItemStep', NEXT % 'end-table', {'payloads': 'put payloads (payloadsHeld table) part', 'entries': 'set entries (recordsHeld table) ' + ENTRY, 'table': 'tablePushed table queue (step .position) (step .length)'}, opens='pushed',
-    post='(%s, (refl, (%s, %s)))' % (AS_LONG(NEXT % '(tablePushed table queue (step .position) n)'), AS_LONG('set entries (recordsHeld table) (entry queue (step .position) n)'), AS_LONG('tablePushed table queue (step .position) n')),
+    post='(%s, (refl, (%s, %s)))' % (AS_LONG(NEXT % '(tablePushed table queue (step .position) n)'), AS_LONG('set entries (recordsHeld table) (entry queue (step .position) n block)'), AS_LONG('tablePushed table queue (step .position) n')),
     requires=ASKS, crate='call_apply', typed=[('RecordEntry', 'Entry'), ('Held', 'Hld'), ('ItemStep', 'Stp')], lets=[('part', 'List ℕ', PAYLOAD[1:-1]), ('sums', 'Held', 'heldIn table')], literals=['(typed-Entry %s e-is)' % ENTRY], lemmas='''
   part-len : length part ≡ step .length
   part-len = part-length scratch (step .start) (step .length) (need .0)
@@ -41,7 +41,7 @@ push_next_walk = F('push_next', ONE, 'ItemStep', NEXT % 'end-table', {'payloads'
   e-is : IsRecordEntry %s
   e-is =
       LL.owes Entry.the-type Entry′.the-laws %s
-      ((refl, queue-is), ((refl, %s), ((refl, %s), tt)))
+      ((refl, queue-is), ((refl, %s), ((refl, %s), ((refl, block-is), tt))))
 ''' % (ENTRY, ENTRY, POSITION[1], LENGTH[1]),
     calls=[dict(f=held, **{'with': {'words': 'table'}, 'is': 'sums-is', 'res': 'sums'}),
            dict(f=store_entry, **{'with': dict(entries='entries', i=sum_of(2, 'records'), e=(ENTRY, 'e-is')), 'need': '(need .1 .entry-fits)'}),
@@ -59,21 +59,21 @@ of_doing = lambda at, row, name, flat=False: field('Doing', 'doing', 'doing-is',
 PLACE = of_doing(0, 'Place', 'place', True); CHANGE = of_doing(1, 'Change', 'change'); QUEUE = ('(doing .place .queue)', '(LL.owed Plc.the-type Plc′.the-laws (doing .place) _ %s .1 .0 .1)' % PLACE[1])
 NAMED = '(doing .change) (doing .place) name m (need .change-open)'
 STEP0 = 'itemStep scratch (doing .items) queue (length entries) (length payloads) table₁'
-BEGIN = '(record { cursor = doing .items; items = itemsAtPlace scratch (doing .items); payloads = swept .payloads; entries = swept .entries; table = table₁ }, (begins scratch queue (doing .items) (swept .payloads) (swept .entries) table₁ (length entries) (length payloads) (length table) items-fit len-sweep-entries len-sweep-payloads len-retable-part-table, (step-is, len-retable-part-names)))'
+BEGIN = '(record { cursor = doing .items; items = itemsAtPlace scratch (doing .items); payloads = swept .payloads; entries = swept .entries; table = table₁ }, (begins scratch queue (doing .block) (doing .items) (swept .payloads) (swept .entries) table₁ (length entries) (length payloads) (length table) items-fit len-sweep-entries len-sweep-payloads len-retable-part-table, (step-is, len-retable-part-names)))'
 OWED = '(LL.owed Stp.the-type Stp′.the-laws (step-at i) _ (i .1 .1 .0) .1 .0 .1)'; LISTS = ('payloads', 'entries', 'table')
 DONE = lambda x: 'ap (λ (x : Pushed). x .%s) (done-at i over)' % x
 apply_walk = F('apply', [('names', 'mut', 'u8')] + TABLES + [('scratch', 'copy', 'u8'), ('doing', 'plain', 'Doing')], 'u64', 'step-at i .refusal', dict({x: 'i .0 .' + x for x in LISTS}, names='names₁'), requires=apply.requires, crate='call_apply', typed=[('Doing', 'Dng'), ('Swept', 'Swp'), ('ItemStep', 'Stp')], opens='changedAt',
     lets=[('m', 'Lists', MEMORY[1:-1]), ('queue', 'ℕ', 'doing .place .queue'), ('name', 'List ℕ', 'nameOf scratch doing'), ('swept', 'Sweeping', 'sweepTo (doing .change) queue entries payloads (sweepCount (doing .change) queue table)'),
           ('names₁', 'List ℕ', 'namesAfter (doing .change) names table (doing .place) name'), ('table₁', 'List ℕ', 'tableAfter (doing .change) table (doing .place) name (swept .swept)'),
-          ('lent', 'Lent', 'record { entries = length entries; payloads = length payloads; table = length table; all = pushedItems scratch (doing .items) queue (swept .payloads) (swept .entries) table₁ }')],
+          ('lent', 'Lent', 'record { entries = length entries; payloads = length payloads; table = length table; all = pushedItems scratch (doing .items) queue (doing .block) (swept .payloads) (swept .entries) table₁ }')],
     post='(%s, (refl, (%s, (%s, %s))))' % tuple(DONE(x) for x in ('refusal',) + LISTS),
     calls=[dict(f=sweep_count, **{'with': dict(chg=CHANGE, queue=QUEUE, words='table'), 'is': 'count-is'}),
            dict(f=sweep, **{'with': dict(same('entries', 'payloads'), chg=CHANGE, queue=QUEUE, count=('(sweepCount (doing .change) queue table)', 'count-is')), 'need': '(change-sweeps %s)' % NAMED, 'is': 'swept-is', 'res': 'swept .swept', 'ends': {x: 'swept .' + x for x in ('entries', 'payloads')}}),
            dict(f=retable_part, **{'with': dict(names='names', words='table', chg=CHANGE, place=PLACE, source='scratch', start=of_doing(2, 'usize', '«name_start»'), len=of_doing(3, 'usize', '«name_len»'), swept=('(swept .swept)', 'swept-is')), 'need': '(need .name-inside, change-takes %s (room-names .0))' % NAMED,
                                       'ends': {'names': 'names₁', 'table': 'table₁'}}),
            dict(f=item_step, **{'with': dict(same('scratch', 'table'), items=of_doing(4, 'MultiRecord', 'items', True), queue=QUEUE, room=('(length entries)', '(room-entries .0)'), bytes=('(length payloads)', '(room-payloads .0)')), 'is': 'step-is', 'res': '(%s)' % STEP0}),
-           dict(f=push_next, **{'with': dict(same('payloads', 'entries', 'table', 'scratch'), queue=QUEUE, step=('(step-at i)', '(i .1 .1 .0)')), 'need': '(turn-at i more .inside, turn-at i more .fits)', 'is': 'next-is', 'res': '(step-next i)'})],
-    loop=dict(about='the items that are to come', where='(w : Coming) × (Stands scratch queue lent w × (IsItemStep (stepAt scratch queue lent w) × (length names₁ ≡ length names)))', measure='length (i .0 .items)', start=BEGIN,
+           dict(f=push_next, **{'with': dict(same('payloads', 'entries', 'table', 'scratch'), queue=QUEUE, block=of_doing(5, 'usize', 'block'), step=('(step-at i)', '(i .1 .1 .0)')), 'need': '(turn-at i more .inside, turn-at i more .fits)', 'is': 'next-is', 'res': '(step-next i)'})],
+    loop=dict(about='the items that are to come', where='(w : Coming) × (Stands scratch queue (doing .block) lent w × (IsItemStep (stepAt scratch queue (doing .block) lent w) × (length names₁ ≡ length names)))', measure='length (i .0 .items)', start=BEGIN,
               given=[('step-is', 'IsItemStep (%s)' % STEP0)] + [('len-sweep-' + x, 'length (swept .%s) ≡ length %s' % (x, x)) for x in ('entries', 'payloads')] + [('len-retable-part-' + x, 'length %s₁ ≡ length %s' % (x, x)) for x in ('names', 'table')], holds='more',
               exits=('(i : Where) → Holds (not (step-at i .more)) → ', 'i over '), res_is=OWED, result='(tt, record { fits = %s })' % OWED, lens=dict({x: 'i .1 .0 .long .' + x for x in LISTS}, names='i .1 .1 .1'), refs=dict({x: 'i .0 .' + x for x in LISTS}, names='names₁'),
               locals={9: ('Stp′.lowered (step-at i)', '')}, enters=[], turned=[(9, ('ItemStep', 'Stp′.lowered z'), '(same-next i more)')], fits='',
@@ -83,24 +83,24 @@ apply_walk = F('apply', [('names', 'mut', 'u8')] + TABLES + [('scratch', 'copy',
   items-fit = need .items-fit
 
   abbrev step-at : Where → ItemStep
-  step-at i = stepAt scratch queue lent (i .0)
+  step-at i = stepAt scratch queue (doing .block) lent (i .0)
 
   abbrev done-at : (i : Where) → Holds (not (step-at i .more)) → stopped (step-at i .refusal) (i .0 .payloads) (i .0 .entries) (i .0 .table) ≡ lent .all
-  done-at i over = ends scratch queue lent (i .0) (i .1 .0) (fails (step-at i .more) over)
+  done-at i over = ends scratch queue (doing .block) lent (i .0) (i .1 .0) (fails (step-at i .more) over)
 
-  abbrev turn-at : (i : Where) → Holds (step-at i .more) → Turns scratch queue lent (i .0) (step-at i)
-  turn-at i more = turned scratch queue lent (i .0) (i .1 .0) (holds (step-at i .more) more)
+  abbrev turn-at : (i : Where) → Holds (step-at i .more) → Turns scratch queue (doing .block) lent (i .0) (step-at i)
+  turn-at i more = turned scratch queue (doing .block) lent (i .0) (i .1 .0) (holds (step-at i .more) more)
 
   abbrev table-next : Where → List ℕ
-  table-next i = pushedIn queue (step-at i .position) (take (step-at i .length) (dropped (step-at i .start) scratch)) (i .0 .payloads) (i .0 .entries) (i .0 .table) .table
+  table-next i = pushedIn queue (step-at i .position) (take (step-at i .length) (dropped (step-at i .start) scratch)) (doing .block) (i .0 .payloads) (i .0 .entries) (i .0 .table) .table
 
   abbrev coming-next : (i : Where) → Holds (step-at i .more) → Coming
-  coming-next i more = after scratch queue (i .0) (step-at i) (turn-at i more .behind)
+  coming-next i more = after scratch queue (doing .block) (i .0) (step-at i) (turn-at i more .behind)
 
   abbrev step-next : Where → ItemStep
   step-next i = itemStep scratch (step-at i .rest) queue (length (i .0 .entries)) (length (i .0 .payloads)) (table-next i)
 
-  same-next : (i : Where) (more : Holds (step-at i .more)) → step-next i ≡ stepAt scratch queue lent (coming-next i more)
+  same-next : (i : Where) (more : Holds (step-at i .more)) → step-next i ≡ stepAt scratch queue (doing .block) lent (coming-next i more)
   same-next i more = ap₂ (λ (x y : ℕ). itemStep scratch (step-at i .rest) queue x y (table-next i)) (i .1 .0 .long .entries) (i .1 .0 .long .payloads)
 '''))
 USES = '''

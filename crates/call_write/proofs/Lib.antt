@@ -2,3 +2,4 @@ pub mod Building
 pub mod Planned
 pub mod Answering
 pub mod Asking
+pub mod Blocks

@@ -8,7 +8,7 @@ use Rattle.record.specs.Record.{Item}
 use Rattle.queues.specs.declared.Lower.{Lower}
 use Rattle.queues.specs.declared.Lower.the-variants.{After as afterPosition}
 use Rattle.queues.specs.declared.Upper.{Upper}
-use Rattle.queues.specs.Queues.{Queue, Found, held, find, rising}
+use Rattle.queues.specs.Queues.{Stored, Queue, Found, held, find, rising}
 use Rattle.queues.specs.Ranges.{allInRange, FirstItem, noItem, firstItem, firstOf, rangeOf}
 use Rattle.queues.specs.Layout.{Memory, meaning}
 use Rattle.largest.specs.Table.{arrangedWith}
@@ -22,7 +22,7 @@ use Rattle.calls.proofs.Passed.{question-passed}
 use Rattle.call_write.specs.declared.QuestionAnswer.{QuestionAnswer}
 use Rattle.contracts.specs.Numbers.{rangeNumbers}
 use Rattle.contracts.specs.Contracts.{RangeKept}
-use Rattle.claims.specs.Asks.{RangeGave, Asks}
+use Rattle.claims.specs.Asks.{answered, allAnswered, RangeGave, Asks}
 use Rattle.claims.specs.Asks.{Asks.last, Asks.more}
 use Rattle.claims.proofs.Six.{range-refusal}
 use Rattle.claims.specs.Claims.{AskedAgain, AskedThrough}
@@ -66,16 +66,18 @@ module _ (m : Memory) (ks n : List ℕ) (lo : Lower) (hi : Upper) (f : FirstItem
 
 -- ---- the first of a list
 
-record Begins (i : Item) (xs : List Item) : Type 0 where
-  later : List Item
-  parts : xs ≡ i ∷ later
+record Begins (i : Item) (xs : List Stored) : Type 0 where
+  first : Stored
+  given : answered first ≡ i
+  later : List Stored
+  parts : xs ≡ first ∷ later
 
-begins : (i : Item) (xs : List Item) → firstOf xs ≡ firstItem i → Begins i xs
+begins : (i : Item) (xs : List Stored) → firstOf xs ≡ firstItem i → Begins i xs
 unfolding firstOf
 begins i [] e = never (cc)
-begins i (x ∷ xs) e = let d : x ≡ i = cc in record { later = xs; parts = ap (λ (y : Item). y ∷ xs) d }
+begins i (x ∷ xs) e = let d : answered x ≡ i = cc in record { first = x; given = d; later = xs; parts = refl }
 
-nothing : (xs : List Item) → firstOf xs ≡ noItem → xs ≡ []
+nothing : (xs : List Stored) → firstOf xs ≡ noItem → xs ≡ []
 unfolding firstOf
 nothing [] e = refl
 nothing (x ∷ xs) e = never (cc)
@@ -88,7 +90,9 @@ module _ (m : Memory) (ks n : List ℕ) (lo : Lower) (hi : Upper) (i : Item) (w 
 
   -- the range after i is the rest of the range
   range-again : allInRange (afterPosition (i .position)) hi (q .queue .records) ≡ range-begins .later
-  range-again = ask-again lo hi (q .queue .start) (q .queue .records) i (range-begins .later) (q .rises) (range-begins .parts)
+  range-again =
+      ap (λ (x : Item). allInRange (afterPosition (x .position)) hi (q .queue .records)) (sym (range-begins .given))
+      ∙ ask-again lo hi (q .queue .start) (q .queue .records) (range-begins .first) (range-begins .later) (q .rises) (range-begins .parts)
 
 pub asked-again : AskedAgain
 unfolding rangeOf
@@ -97,19 +101,24 @@ asked-again m ks n lo hi i a w k =
     record {
       queue = q .queue;
       is-held = q .is-held;
+      first = range-begins m ks n lo hi i w q .first;
+      given = range-begins m ks n lo hi i w q .given;
       later = range-begins m ks n lo hi i w q .later;
       range = range-begins m ks n lo hi i w q .parts;
       next =
           range-given m ks n (afterPosition (i .position)) hi a q k
-          ∙ ap (λ (xs : List Item). gave (firstOf xs)) (range-again m ks n lo hi i w q);
+          ∙ ap (λ (xs : List Stored). gave (firstOf xs)) (range-again m ks n lo hi i w q);
     }
 
 -- ---- to the last
 
-through : (m : Memory) (ks n : List ℕ) (lo : Lower) (hi : Upper) (is : List Item) (q : OfQueue m ks n) → Asks m ks n hi lo is → is ≡ allInRange lo hi (q .queue .records)
-through m ks n lo hi _ q (last w) = sym (nothing (allInRange lo hi (q .queue .records)) (first-given m ks n lo hi noItem w q))
+through : (m : Memory) (ks n : List ℕ) (lo : Lower) (hi : Upper) (is : List Item) (q : OfQueue m ks n) → Asks m ks n hi lo is → is ≡ allAnswered (allInRange lo hi (q .queue .records))
+unfolding allAnswered
+through m ks n lo hi _ q (last w) = ap allAnswered (sym (nothing (allInRange lo hi (q .queue .records)) (first-given m ks n lo hi noItem w q)))
 through m ks n lo hi _ q (more {is} i w rest) =
-    ap (λ (xs : List Item). i ∷ xs) (through m ks n (afterPosition (i .position)) hi is q rest ∙ range-again m ks n lo hi i w q) ∙ sym (range-begins m ks n lo hi i w q .parts)
+    ap (λ (xs : List Item). i ∷ xs) (through m ks n (afterPosition (i .position)) hi is q rest ∙ ap allAnswered (range-again m ks n lo hi i w q))
+    ∙ ap (λ (x : Item). x ∷ allAnswered (range-begins m ks n lo hi i w q .later)) (sym (range-begins m ks n lo hi i w q .given))
+    ∙ ap allAnswered (sym (range-begins m ks n lo hi i w q .parts))
 
 asked-of : (m : Memory) (ks n : List ℕ) (lo : Lower) (hi : Upper) (is : List Item) → Asks m ks n hi lo is → OfQueue m ks n
 asked-of m ks n lo hi _ (last w) = gave-of m ks n lo hi noItem w

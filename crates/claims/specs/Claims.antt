@@ -17,7 +17,7 @@ use Rattle.record.specs.Record.{Item}
 use Rattle.queues.specs.declared.Lower.{Lower}
 use Rattle.queues.specs.declared.Lower.the-variants.{After as afterPosition}
 use Rattle.queues.specs.declared.Upper.{Upper}
-use Rattle.queues.specs.Queues.{Queue, held, find}
+use Rattle.queues.specs.Queues.{Stored, Queue, held, find}
 use Rattle.queues.specs.Ranges.{allInRange, firstItem, firstOf}
 use Rattle.queues.specs.Layout.{Memory, meaning, capacities}
 use Rattle.calls.specs.State.{State, Call, createCall, deleteCall, truncateCall, appendCall, markCall, CallAnswer, bytesWritten}
@@ -40,7 +40,7 @@ use Rattle.read_step.specs.declared.ReplayAnswer.the-variants.{Replayed as repl
 use Rattle.contracts.specs.Contracts.{Lent, stateOf, CallKept, RangeKept, QuestionKept, ReadKept, ReplayKept}
 use Rattle.contracts.specs.Run.{Run, Reads}
 use Rattle.claims.specs.ReadsOn.{ReadsOn}
-use Rattle.claims.specs.Asks.{RangeGave, Asks}
+use Rattle.claims.specs.Asks.{answered, allAnswered, RangeGave, Asks}
 
 -- ---- 6: "What open or a call left, lent again unchanged, always is."
 
@@ -165,8 +165,10 @@ StruckWithin = (h : List Fed) (l : Lent) → Run h l
 pub record NextGiven (m : Memory) (n : List ℕ) (lo : Lower) (hi : Upper) (i : Item) (a : QuestionAnswer) : Type 0 where
   pub queue : Queue
   pub is-held : find n (meaning m) ≡ held queue
-  pub later : List Item
-  pub range : allInRange lo hi (queue .records) ≡ i ∷ later
+  pub first : Stored
+  pub given : answered first ≡ i
+  pub later : List Stored
+  pub range : allInRange lo hi (queue .records) ≡ first ∷ later
   pub next : rangeNumbers (m .payloads) a ≡ record { refusal = 0; found = firstOf later }
 
 abbrev pub AskedAgain : Type 0
@@ -177,7 +179,7 @@ AskedAgain = (m : Memory) (ks n : List ℕ) (lo : Lower) (hi : Upper) (i : Item)
 pub record AllGiven (m : Memory) (n : List ℕ) (lo : Lower) (hi : Upper) (is : List Item) : Type 0 where
   pub queue : Queue
   pub is-held : find n (meaning m) ≡ held queue
-  pub all : is ≡ allInRange lo hi (queue .records)
+  pub all : is ≡ allAnswered (allInRange lo hi (queue .records))
 
 abbrev pub AskedThrough : Type 0
 AskedThrough = (m : Memory) (ks n : List ℕ) (lo : Lower) (hi : Upper) (is : List Item) → Asks m ks n hi lo is → AllGiven m n lo hi is

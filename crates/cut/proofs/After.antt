@@ -4,7 +4,7 @@ use mathlib.Core.Path.{_≡_, refl, sym, ap, ap₂, subst, _∙_}
 use mathlib.Core.Logic.{_⊎_, inl, inr}
 use mathlib.Core.Bool.{Bool, true, false, cond}
 use mathlib.Core.List.{List, [], _∷_, _++_, map, append-assoc}
-use Prim.Native.Nat.{ℕ, suc, _+_, _*_, _-_, _/_, _≤_, _<_}
+use Prim.Native.Nat.{ℕ, suc, _+_, _*_, _-_, _/_, _%_, _≤_, _<_}
 use native.Mathlib.Omega.{arith}
 use lib.Dec.{eqb}
 use lib.ListN.{length, drop, length-append, length-replicate, replicate-append-replicate}
@@ -17,17 +17,24 @@ use Rattle.frame.specs.Frame.{typeNumber}
 use Rattle.frame.specs.Block.{padding, blocks}
 use Rattle.frame.specs.Reader.{fresh}
 use Rattle.frame.proofs.Headers.{header}
+use Rattle.frame.proofs.Tests.{le-or-lt}
+use Rattle.frame.proofs.Step.{padding-none, padding-some}
 use Rattle.recordlog.specs.Write.{framesOf, bytesOf, recordBytes, placeAfter}
 use Rattle.recordlog.specs.Laid.{placeAll, recordsBytes}
-use Rattle.recordlog.specs.Claims.{readAll, Each}
-use Rattle.recordlog.specs.Read.{whole, endOfLog, readsFrom, resume}
+use Rattle.recordlog.specs.Claims.{Each}
+use Rattle.recordlog.specs.Read.{Answer, whole, endOfLog, resume}
+use Rattle.recordlog.specs.Placed.{headerPlace, Placed, ended, placedAll, given as placedAs}
+use Rattle.recordlog.specs.PlacedClaims.{forget, givenFrom}
+use Rattle.recordlog.proofs.Placed.{placed-forgets}
+use Rattle.recordlog.proofs.Assemble.{forget-from}
+use Rattle.recordlog.proofs.Resume.{resumes-same}
 use Rattle.recordlog.proofs.Frames.{endOf, length-bytes, framesAll, length-record, length-written}
 use Rattle.recordlog.proofs.Needed.{needs}
 use Rattle.cut.specs.Cut.{Left, headed, nothing, torn, left, covered}
-use Rattle.cut.specs.Claims.{cutLog, given, writeAll, givenAfter, CutWritten}
+use Rattle.cut.specs.Claims.{cutLog, given, givenAt, writeAll, givenAfter, givenAfterAt, CutWritten, CutWrittenPlaced}
 use Rattle.cut.proofs.See.{beyond}
 use Rattle.cut.proofs.State.{Fits, Clean, Headed, Torn, State, is-clean, is-headed, is-torn, state}
-use Rattle.cut.proofs.Reading.{finished-all, endsAt, clean-gives, headed-gives, torn-on-gives, clean-read, headed-read, torn-read, tornPlace, beyond-inside, beyond-fits, cut-blocks}
+use Rattle.cut.proofs.Reading.{forget-given, finished-cut, endsAt, clean-gives, headed-gives, torn-on-gives, clean-read, headed-read, torn-read, tornPlace, beyond-inside, beyond-fits, cut-blocks}
 use Rattle.cut.proofs.Writing.{Written, written, write-all}
 
 -- a run put over one that is no longer
@@ -39,6 +46,26 @@ put-covers front u y r h l g =
     (sym (drop-drop (length r) h (front ++ (u ++ y))) ∙ ap (drop (length r)) (drop-at front (u ++ y) h l)
     ∙ ap (λ (i : ℕ). drop i (u ++ y)) e ∙ drop-append-add u y (length r - length u))
 
+-- records written from a place, or from the end of its padding, have the same first headers
+padded : (p : ℕ) → padding (p + padding p) ≡ 0
+padded p = go (le-or-lt (p % 32768) 32761)
+  where
+    go : (p % 32768 ≤ 32761) ⊎ (32761 < p % 32768) → padding (p + padding p) ≡ 0
+    go (inl h) = padding-none (p + padding p) (omega (arith, padding-none p h))
+    go (inr h) = padding-none (p + padding p) (omega (arith, padding-some p h))
+
+from-padded : (p : ℕ) (rs : List (List ℕ)) → givenFrom (p + padding p) rs ≡ givenFrom p rs
+unfolding givenFrom headerPlace
+from-padded p [] = refl
+from-padded p (ys ∷ rs) =
+    let e : p + padding p + padding (p + padding p) ≡ p + padding p = omega (arith, padded p) in
+    ap₂ (λ (i j : ℕ). placedAs i ys ∷ givenFrom j rs) e (resumes-same p ys .1)
+
+same-near : (xs ys : List Placed) (e q : ℕ) (rs : List (List ℕ)) → (q ≡ e) ⊎ (q ≡ e + padding e)
+    → xs ++ (ys ++ (givenFrom e rs ++ (ended ∷ []))) ≡ xs ++ (ys ++ (givenFrom q rs ++ (ended ∷ [])))
+same-near xs ys e q rs (inl h) = ap (λ (i : ℕ). xs ++ (ys ++ (givenFrom i rs ++ (ended ∷ [])))) (sym h)
+same-near xs ys e q rs (inr h) = ap (λ (s : List Placed). xs ++ (ys ++ (s ++ (ended ∷ [])))) (sym (ap (λ (i : ℕ). givenFrom i rs) h ∙ from-padded e rs))
+
 -- a record needs a header
 longer : (q : ℕ) (ys : List ℕ) (rs : List (List ℕ)) → 7 ≤ length (recordsBytes q (ys ∷ rs))
 unfolding recordsBytes placeAfter
@@ -47,9 +74,10 @@ longer q ys rs = omega (arith, length-append (recordBytes q ys) (recordsBytes (p
 module _ (n limit : ℕ) (before : List (List ℕ)) (xs tail log : List ℕ) (fit : Fits limit before xs) (hn : 0 < n) (ht : length tail < 32768)
     (rs : List (List ℕ)) (hr : Each (λ ys. length ys ≤ limit) rs) (q : ℕ) (room : placeAll q rs ≤ n * 32768) where
   clean-after : {l : Left} (s : Clean n before xs tail log l) → (q ≡ endOf 0 (s .frames)) ⊎ (q ≡ endOf 0 (s .frames) + padding (endOf 0 (s .frames)))
-      → readsFrom (writeAll log q rs) limit fresh .answers ≡ map whole before ++ (given l xs ++ (map whole rs ++ (endOfLog ∷ [])))
-  clean-after s g =
-      clean-gives limit s fit hn rs hr (writeAll log q rs) (e + s .k - placeAll e rs) (omega (arith, w .size, s .total)) (w .is) (omega (arith, w .inside, s .total)) .answers
+      → placedAll (writeAll log q rs) limit ≡ givenFrom 0 before ++ (givenAt l (placeAll 0 before) xs ++ (givenFrom q rs ++ (ended ∷ [])))
+  clean-after {l} s g =
+      clean-gives limit s fit hn rs hr (writeAll log q rs) (e + s .k - placeAll e rs) (omega (arith, w .size, s .total)) (w .is) (omega (arith, w .inside, s .total)) .placed
+      ∙ same-near (givenFrom 0 before) (givenAt l (placeAll 0 before) xs) e q rs g
     where
       e : ℕ
       e = endOf 0 (s .frames)
@@ -60,10 +88,11 @@ module _ (n limit : ℕ) (before : List (List ℕ)) (xs tail log : List ℕ) (fi
           (written (bytesOf (s .frames)) tail e (s .k) (omega (arith, length-bytes 0 (s .frames) (s .stands))) rs q g (omega (arith, s .total)))
 
   headed-after : (s : Headed n before xs tail log) → (q ≡ endsAt s) ⊎ (q ≡ endsAt s + padding (endsAt s))
-      → readsFrom (writeAll log q rs) limit fresh .answers ≡ map whole before ++ (given headed xs ++ (map whole rs ++ (endOfLog ∷ [])))
+      → placedAll (writeAll log q rs) limit ≡ givenFrom 0 before ++ (givenAt headed (placeAll 0 before) xs ++ (givenFrom q rs ++ (ended ∷ [])))
   headed-after s g =
       headed-gives limit s fit hn rs hr (writeAll log q rs) (e + s .k - placeAll e rs) (omega (arith, w .size, s .total)) (w .is ∙ sym (with-rest (bytesOf (framesAll e rs) ++ (zeros (e + s .k - placeAll e rs) ++ tail))))
-      (omega (arith, w .inside, s .total)) .answers
+      (omega (arith, w .inside, s .total)) .placed
+      ∙ same-near (givenFrom 0 before) (givenAt headed (placeAll 0 before) xs) e q rs g
     where
       e : ℕ
       e = endsAt s
@@ -108,10 +137,11 @@ module _ (n limit : ℕ) (before : List (List ℕ)) (xs tail log : List ℕ) (fi
 
   -- after the block of a header that has no type
   torn-after : (s : Torn n before xs tail log) → q ≡ beyond (endOf 0 (s .frames)) → blocks log ≡ n → (i : ℕ)
-      → readsFrom (writeAll log q rs) limit fresh .answers ≡ map whole before ++ (given (torn i) xs ++ (map whole rs ++ (endOfLog ∷ [])))
+      → placedAll (writeAll log q rs) limit ≡ givenFrom 0 before ++ (givenAt (torn i) (placeAll 0 before) xs ++ (givenFrom q rs ++ (ended ∷ [])))
   torn-after s g size i =
       torn-on-gives limit s fit hn (writeAll log q rs) (b + j - placeAll b rs) (omega (arith, w .size, beyond-inside limit fit hn size s)) (zeros m ++ new) (w .is ∙ regroup) rs hr
-      (ap (drop b) (w .is) ∙ drop-at front new b front-length) (omega (arith, w .inside, beyond-inside limit fit hn size s)) i .answers
+      (ap (drop b) (w .is) ∙ drop-at front new b front-length) (omega (arith, w .inside, beyond-inside limit fit hn size s)) i .placed
+      ∙ same-near (givenFrom 0 before) (givenAt (torn i) (placeAll 0 before) xs) b q rs (inl g)
     where
       e : ℕ
       e = endOf 0 (s .frames)
@@ -176,10 +206,10 @@ module _ (n limit : ℕ) (before : List (List ℕ)) (xs tail log : List ℕ) (fi
 covered-after : (n limit : ℕ) (before : List (List ℕ)) (xs tail log : List ℕ) → Fits limit before xs → 0 < n → length tail < 32768
     → (ys : List ℕ) (rs : List (List ℕ)) → Each (λ zs. length zs ≤ limit) (ys ∷ rs) → (q : ℕ) → placeAll q (ys ∷ rs) ≤ n * 32768
     → (s : Torn n before xs tail log) → q ≡ endOf 0 (s .frames) + padding (endOf 0 (s .frames)) → blocks log ≡ n
-    → readsFrom (writeAll log q (ys ∷ rs)) limit fresh .answers ≡ map whole before ++ (map whole (ys ∷ rs) ++ (endOfLog ∷ []))
-unfolding given covered
+    → placedAll (writeAll log q (ys ∷ rs)) limit ≡ givenFrom 0 before ++ (givenFrom q (ys ∷ rs) ++ (ended ∷ []))
+unfolding givenAt covered
 covered-after n limit before xs tail log fit hn ht ys rs hr q room s g size =
-    ap (λ (t : List ℕ). readsFrom t limit fresh .answers) same
+    ap (λ (t : List ℕ). placedAll t limit) same
     ∙ clean-after n limit before xs tail plainLog fit hn ht (ys ∷ rs) hr q room plainly (inr g)
   where
     e : ℕ
@@ -263,36 +293,36 @@ covered-after n limit before xs tail log fit hn ht ys rs hr q room s g size =
 -- what is to be shown: `limit` is that of the reading after which the writer resumes, `again` that of the reading after the writing
 abbrev ReadBack : ℕ → ℕ → ℕ → List (List ℕ) → List ℕ → List ℕ → List (List ℕ) → Left → Type 0
 ReadBack n limit again before xs log rs l =
-    readsFrom (writeAll log (resume log limit) rs) again fresh .answers ≡ map whole before ++ (givenAfter n l xs rs ++ (map whole rs ++ (endOfLog ∷ [])))
+    placedAll (writeAll log (resume log limit) rs) again ≡ givenFrom 0 before ++ (givenAfterAt n l (placeAll 0 before) xs rs ++ (givenFrom (resume log limit) rs ++ (ended ∷ [])))
 
 module _ (n limit again : ℕ) (before : List (List ℕ)) (xs tail log : List ℕ) (fit : Fits limit before xs) (fits : Fits again before xs)
     (hn : 0 < n) (ht : length tail < 32768) (size : blocks log ≡ n)
     (rs : List (List ℕ)) (hr : Each (λ ys. length ys ≤ again) rs) (room : placeAll (resume log limit) rs ≤ n * 32768) where
   -- it is what is given, but where that is covered
   uncovered : (l : Left) → covered n l rs ≡ false
-      → readsFrom (writeAll log (resume log limit) rs) again fresh .answers ≡ map whole before ++ (given l xs ++ (map whole rs ++ (endOfLog ∷ [])))
+      → placedAll (writeAll log (resume log limit) rs) again ≡ givenFrom 0 before ++ (givenAt l (placeAll 0 before) xs ++ (givenFrom (resume log limit) rs ++ (ended ∷ [])))
       → ReadBack n limit again before xs log rs l
-  unfolding givenAfter
-  uncovered l e g = g ∙ ap (λ (b : Bool). map whole before ++ (cond b [] (given l xs) ++ (map whole rs ++ (endOfLog ∷ [])))) (sym e)
+  unfolding givenAfterAt
+  uncovered l e g = g ∙ ap (λ (b : Bool). givenFrom 0 before ++ (cond b [] (givenAt l (placeAll 0 before) xs) ++ (givenFrom (resume log limit) rs ++ (ended ∷ [])))) (sym e)
 
   after-clean : {l : Left} → Clean n before xs tail log l → ReadBack n limit again before xs log rs l
   unfolding resume
   after-clean {l} s =
       uncovered l (s .plain rs)
-      (clean-after n again before xs tail log fits hn ht rs hr (resume log limit) room s (clean-read limit fit hn size s .left (finished-all before l xs [])))
+      (clean-after n again before xs tail log fits hn ht rs hr (resume log limit) room s (clean-read limit fit hn size s .left (finished-cut before l (placeAll 0 before) xs)))
 
   after-headed : Headed n before xs tail log → ReadBack n limit again before xs log rs headed
   unfolding resume covered
   after-headed s =
       uncovered headed refl
-      (headed-after n again before xs tail log fits hn ht rs hr (resume log limit) room s (headed-read limit fit hn size s .left (finished-all before headed xs [])))
+      (headed-after n again before xs tail log fits hn ht rs hr (resume log limit) room s (headed-read limit fit hn size s .left (finished-cut before headed (placeAll 0 before) xs)))
 
 torn-resume : (n limit : ℕ) (before : List (List ℕ)) (xs tail log : List ℕ) (fit : Fits limit before xs) (hn : 0 < n) (size : blocks log ≡ n) (s : Torn n before xs tail log)
     → resume log limit ≡ tornPlace limit fit hn size s
 unfolding resume
 torn-resume n limit before xs tail log fit hn size s =
     torn-read limit fit hn size s (endOf 0 (s .frames) + padding (endOf 0 (s .frames))) .left
-    (finished-all before (torn (endOf 0 (s .frames) + padding (endOf 0 (s .frames)))) xs [])
+    (finished-cut before (torn (endOf 0 (s .frames) + padding (endOf 0 (s .frames)))) (placeAll 0 before) xs)
 
 module _ (n limit again : ℕ) (before : List (List ℕ)) (xs tail log : List ℕ) (fit : Fits limit before xs) (fits : Fits again before xs)
     (hn : 0 < n) (ht : length tail < 32768) (size : blocks log ≡ n) (s : Torn n before xs tail log) where
@@ -305,12 +335,12 @@ module _ (n limit again : ℕ) (before : List (List ℕ)) (xs tail log : List �
   resumes-at b e = torn-resume n limit before xs tail log fit hn size s ∙ ap (λ (x : Bool). cond x at (beyond (endOf 0 (s .frames)))) e
 
   after-torn : (rs : List (List ℕ)) → Each (λ ys. length ys ≤ again) rs → placeAll (resume log limit) rs ≤ n * 32768 → ReadBack n limit again before xs log rs (torn at)
-  unfolding writeAll givenAfter covered
-  after-torn [] hr room = torn-read again fits hn size s at .answers
+  unfolding writeAll givenAfterAt covered givenFrom
+  after-torn [] hr room = torn-read again fits hn size s at .placed
   after-torn (ys ∷ rs) hr room = go (eqb (suc (at / 32768)) n) refl
     where
       go : (b : Bool) → eqb (suc (at / 32768)) n ≡ b
-          → readsFrom (writeAll log (resume log limit) (ys ∷ rs)) again fresh .answers ≡ map whole before ++ (cond b [] (given (torn at) xs) ++ (map whole (ys ∷ rs) ++ (endOfLog ∷ [])))
+          → placedAll (writeAll log (resume log limit) (ys ∷ rs)) again ≡ givenFrom 0 before ++ (cond b [] (givenAt (torn at) (placeAll 0 before) xs) ++ (givenFrom (resume log limit) (ys ∷ rs) ++ (ended ∷ [])))
       go true e = covered-after n again before xs tail log fits hn ht ys rs hr (resume log limit) room s (resumes-at true e) size
       go false e = torn-after n again before xs tail log fits hn ht (ys ∷ rs) hr (resume log limit) room s (resumes-at false e) size at
 
@@ -323,8 +353,22 @@ after-state n limit again before xs tail log fit fits hn ht size l (is-headed s 
 after-state n limit again before xs tail log fit fits hn ht size l (is-torn s e) rs hr room =
     subst (ReadBack n limit again before xs log rs) (sym e) (after-torn n limit again before xs tail log fit fits hn ht size s rs hr room)
 
-pub cut-written : CutWritten
-unfolding readAll
-cut-written n limit again c before xs tail after h room hb hx hr =
+pub cut-written-placed : CutWrittenPlaced
+cut-written-placed n limit again c before xs tail after h room hb hx hr =
     after-state n limit again before xs tail (cutLog n before xs c ++ tail) (h .limits, h .limit-next) (hb, hx) (h .some-blocks) (h .short-tail) (cut-blocks n limit c before xs tail h)
     (left c (framesOf (placeAll 0 before) xs)) (state n limit c before xs tail h) after hr room
+
+pub cut-written : CutWritten
+unfolding givenAfter givenAfterAt forget
+cut-written n limit again c before xs tail after h room hb hx hr =
+    let l : Left = left c (framesOf (placeAll 0 before) xs) in
+    let q : ℕ = resume (cutLog n before xs c ++ tail) limit in
+    sym (placed-forgets (writeAll (cutLog n before xs c ++ tail) q after) again)
+    ∙ ap (map forget) (cut-written-placed n limit again c before xs tail after h room hb hx hr)
+    ∙ forget-from 0 before (givenAfterAt n l (placeAll 0 before) xs after ++ (givenFrom q after ++ (ended ∷ [])))
+    ∙ ap (λ (s : List Answer). map whole before ++ s)
+    (forget-when (covered n l after) l (placeAll 0 before) xs (givenFrom q after ++ (ended ∷ [])) ∙ ap (λ (s : List Answer). cond (covered n l after) [] (given l xs) ++ s) (forget-from q after (ended ∷ [])))
+  where
+    forget-when : (b : Bool) (l : Left) (p : ℕ) (xs : List ℕ) (s : List Placed) → map forget (cond b [] (givenAt l p xs) ++ s) ≡ cond b [] (given l xs) ++ map forget s
+    forget-when true l p xs s = refl
+    forget-when false l p xs s = forget-given l p xs s

@@ -17,16 +17,20 @@ use Rattle.frame.proofs.Headers.{header}
 use Rattle.frame.proofs.Step.{start-fits, drop-zeros}
 use Rattle.recordlog.specs.Write.{Frame, framesOf, bytesOf}
 use Rattle.recordlog.specs.Laid.{placeAll}
-use Rattle.recordlog.specs.Claims.{readAll, Each}
-use Rattle.recordlog.specs.Read.{Answer, whole, corruption, endOfLog, readsFrom}
-use Rattle.recordlog.proofs.Sees.{corrupted, assemble, Sees, Any, finished, Gives, readsFrom-sees}
+use Rattle.recordlog.specs.Claims.{Each}
+use Rattle.recordlog.specs.Read.{Answer, whole, endOfLog}
+use Rattle.recordlog.specs.Placed.{Placed, lost, ended, placedAll}
+use Rattle.recordlog.specs.PlacedClaims.{forget, givenFrom}
+use Rattle.recordlog.proofs.Sees.{corrupted, Sees, Any, finished}
+use Rattle.recordlog.proofs.Placed.{assembleAt, placed-forgets, GivesAt, gives-at}
+use Rattle.recordlog.proofs.Assemble.{records-alone, forget-from}
 use Rattle.recordlog.proofs.Frames.{endOf, end-ge, framesAll, laid-all, end-all}
 use Rattle.recordlog.proofs.Seen.{event, behind-padding, sees-frames, sees-rest, rest-there}
 use Rattle.recordlog.proofs.Back.{fresh-at, Near, near}
 use Rattle.cut.specs.Cut.{Left, complete, headed, nothing, torn, left}
-use Rattle.cut.specs.Claims.{cutLog, given, cutAnswers, Cutting, CutRead}
+use Rattle.cut.specs.Claims.{cutLog, given, givenAt, cutAnswers, Cutting, CutRead, CutPlaced}
 use Rattle.cut.proofs.See.{beyond, spoiltAt, behind-headed, sees-headed, sees-torn, sees-torn-on, torn-left}
-use Rattle.cut.proofs.Dropped.{restarts-bad, restarts-records, puts-records}
+use Rattle.cut.proofs.Dropped.{restarts-bad, restarts-records}
 use Rattle.cut.proofs.State.{Fits, Clean, Headed, Torn, State, is-clean, is-headed, is-torn, log-size, state}
 
 -- ---- the answers come to the end of the log
@@ -43,12 +47,32 @@ finished-given headed xs s = refl
 finished-given nothing xs s = refl
 finished-given (torn i) xs s = refl
 
-pub finished-all : (before : List (List ℕ)) (l : Left) (xs : List ℕ) (rs : List (List ℕ))
+finished-all : (before : List (List ℕ)) (l : Left) (xs : List ℕ) (rs : List (List ℕ))
     → finished (map whole before ++ (given l xs ++ (map whole rs ++ (endOfLog ∷ [])))) ≡ true
 unfolding finished
 finished-all before l xs rs =
     finished-records before (given l xs ++ (map whole rs ++ (endOfLog ∷ [])))
     ∙ finished-given l xs (map whole rs ++ (endOfLog ∷ [])) ∙ finished-records rs (endOfLog ∷ [])
+
+pub forget-given : (l : Left) (p : ℕ) (xs : List ℕ) (s : List Placed) → map forget (givenAt l p xs ++ s) ≡ given l xs ++ map forget s
+unfolding given givenAt forget
+forget-given complete p xs s = refl
+forget-given headed p xs s = refl
+forget-given nothing p xs s = refl
+forget-given (torn i) p xs s = refl
+
+pub forget-all : (before : List (List ℕ)) (l : Left) (p : ℕ) (xs : List ℕ) (q : ℕ) (rs : List (List ℕ))
+    → map forget (givenFrom 0 before ++ (givenAt l p xs ++ (givenFrom q rs ++ (ended ∷ [])))) ≡ map whole before ++ (given l xs ++ (map whole rs ++ (endOfLog ∷ [])))
+unfolding forget
+forget-all before l p xs q rs =
+    forget-from 0 before (givenAt l p xs ++ (givenFrom q rs ++ (ended ∷ [])))
+    ∙ ap (λ (s : List Answer). map whole before ++ s)
+    (forget-given l p xs (givenFrom q rs ++ (ended ∷ [])) ∙ ap (λ (s : List Answer). given l xs ++ s) (forget-from q rs (ended ∷ [])))
+
+-- the answers of a cut log alone come to the end of the log
+pub finished-cut : (before : List (List ℕ)) (l : Left) (p : ℕ) (xs : List ℕ) → finished (map forget (givenFrom 0 before ++ (givenAt l p xs ++ (ended ∷ [])))) ≡ true
+unfolding givenFrom
+finished-cut before l p xs = ap finished (forget-all before l p xs 0 []) ∙ finished-all before l xs []
 
 -- ---- frames, zeros
 
@@ -73,12 +97,11 @@ module _ {n : ℕ} (limit : ℕ) {before : List (List ℕ)} {xs tail log₀ : Li
       there : drop e log ≡ bytesOf gs ++ (zeros k ++ tail)
       there = rest-there log (s .frames) 0 (bytesOf gs ++ (zeros k ++ tail)) (s .stands) is
 
-  pub clean-gives : Gives (Near (placeAll (endOf 0 (s .frames)) rs)) (map whole before ++ (given l xs ++ (map whole rs ++ (endOfLog ∷ [])))) (readsFrom log limit fresh)
+  pub clean-gives : GivesAt (Near (placeAll (endOf 0 (s .frames)) rs)) (givenFrom 0 before ++ (givenAt l (placeAll 0 before) xs ++ (givenFrom (endOf 0 (s .frames)) rs ++ (ended ∷ [])))) log limit
   clean-gives =
-      subst (λ (x : List Answer). Gives (Near (placeAll (endOf 0 (s .frames)) rs)) x (readsFrom log limit fresh))
+      gives-at log limit (givenFrom 0 before ++ (givenAt l (placeAll 0 before) xs ++ (givenFrom (endOf 0 (s .frames)) rs ++ (ended ∷ [])))) (omega arith) clean-sees
       (s .puts limit fit (map event (framesAll (endOf 0 (s .frames)) rs)) (restarts-records limit (endOf 0 (s .frames)) rs)
-      ∙ ap (λ (x : List Answer). map whole before ++ (given l xs ++ x)) (puts-records limit (endOf 0 (s .frames)) rs hr))
-      (readsFrom-sees log limit (omega arith) clean-sees)
+      ∙ ap (λ (x : List Placed). givenFrom 0 before ++ (givenAt l (placeAll 0 before) xs ++ x)) (records-alone limit (endOf 0 (s .frames)) rs hr))
 
 -- ---- frames, a whole header with other data, zeros
 
@@ -121,13 +144,12 @@ module _ {n : ℕ} (limit : ℕ) {before : List (List ℕ)} {xs tail log₀ : Li
       far : q ≤ blocks log * 32768
       far = omega (arith, ends, end-ge q gs)
 
-  pub headed-gives : Gives (Near (placeAll (endsAt s) rs)) (map whole before ++ (given headed xs ++ (map whole rs ++ (endOfLog ∷ [])))) (readsFrom log limit fresh)
-  unfolding given
+  pub headed-gives : GivesAt (Near (placeAll (endsAt s) rs)) (givenFrom 0 before ++ (givenAt headed (placeAll 0 before) xs ++ (givenFrom (endsAt s) rs ++ (ended ∷ [])))) log limit
+  unfolding givenAt
   headed-gives =
-      subst (λ (x : List Answer). Gives (Near (placeAll (endsAt s) rs)) x (readsFrom log limit fresh))
+      gives-at log limit (givenFrom 0 before ++ (givenAt headed (placeAll 0 before) xs ++ (givenFrom (endsAt s) rs ++ (ended ∷ [])))) (omega arith) headed-sees
       (s .puts limit fit (corrupted wrongChecksum ∷ map event (framesAll (endsAt s) rs)) (restarts-bad limit wrongChecksum (map event (framesAll (endsAt s) rs)))
-      ∙ ap (λ (x : List Answer). map whole before ++ x) (unfold assemble in ap (λ (x : List Answer). corruption wrongChecksum ∷ x) (puts-records limit (endsAt s) rs hr)))
-      (readsFrom-sees log limit (omega arith) headed-sees)
+      ∙ ap (λ (x : List Placed). givenFrom 0 before ++ x) (unfold assembleAt in ap (λ (x : List Placed). lost wrongChecksum ∷ x) (records-alone limit (endsAt s) rs hr)))
 
 -- ---- frames, a part of a header, zeros
 
@@ -150,12 +172,11 @@ module _ {n : ℕ} (limit : ℕ) {before : List (List ℕ)} {xs tail log₀ : Li
       e = endOf 0 (s .frames)
 
   pub torn-gives : drop (beyond (endOf 0 (s .frames))) log ≡ zeros k ++ tail → beyond (endOf 0 (s .frames)) + k ≡ n * 32768 → (i : ℕ)
-      → Gives (λ r. place r ≡ place (readFrame log (spoiltAt (endOf 0 (s .frames))) .reader)) (map whole before ++ (given (torn i) xs ++ (endOfLog ∷ []))) (readsFrom log limit fresh)
-  unfolding given
+      → GivesAt (λ r. place r ≡ place (readFrame log (spoiltAt (endOf 0 (s .frames))) .reader)) (givenFrom 0 before ++ (givenAt (torn i) (placeAll 0 before) xs ++ (ended ∷ []))) log limit
+  unfolding givenAt
   torn-gives d w i =
-      subst (λ (x : List Answer). Gives (λ r. place r ≡ place (readFrame log (spoiltAt (endOf 0 (s .frames))) .reader)) x (readsFrom log limit fresh))
-      (s .puts limit fit (corrupted unknownType ∷ []) (restarts-bad limit unknownType []) ∙ (unfold assemble in refl))
-      (readsFrom-sees log limit (omega arith) (torn-sees d w))
+      gives-at log limit (givenFrom 0 before ++ (givenAt (torn i) (placeAll 0 before) xs ++ (ended ∷ []))) (omega arith) (torn-sees d w)
+      (s .puts limit fit (corrupted unknownType ∷ []) (restarts-bad limit unknownType []) ∙ (unfold assembleAt in refl))
 
   -- records after its block
   torn-on-sees : (rs : List (List ℕ)) → drop (beyond (endOf 0 (s .frames))) log ≡ bytesOf (framesAll (beyond (endOf 0 (s .frames))) rs) ++ (zeros k ++ tail)
@@ -173,13 +194,12 @@ module _ {n : ℕ} (limit : ℕ) {before : List (List ℕ)} {xs tail log₀ : Li
   pub torn-on-gives : (rs : List (List ℕ)) → Each (λ ys. length ys ≤ limit) rs
       → drop (beyond (endOf 0 (s .frames))) log ≡ bytesOf (framesAll (beyond (endOf 0 (s .frames))) rs) ++ (zeros k ++ tail)
       → placeAll (beyond (endOf 0 (s .frames))) rs + k ≡ n * 32768 → (i : ℕ)
-      → Gives Any (map whole before ++ (given (torn i) xs ++ (map whole rs ++ (endOfLog ∷ [])))) (readsFrom log limit fresh)
-  unfolding given
+      → GivesAt Any (givenFrom 0 before ++ (givenAt (torn i) (placeAll 0 before) xs ++ (givenFrom (beyond (endOf 0 (s .frames))) rs ++ (ended ∷ [])))) log limit
+  unfolding givenAt
   torn-on-gives rs hr d w i =
-      subst (λ (x : List Answer). Gives Any x (readsFrom log limit fresh))
+      gives-at log limit (givenFrom 0 before ++ (givenAt (torn i) (placeAll 0 before) xs ++ (givenFrom b rs ++ (ended ∷ [])))) (omega arith) (torn-on-sees rs d w)
       (s .puts limit fit (corrupted unknownType ∷ map event (framesAll b rs)) (restarts-bad limit unknownType (map event (framesAll b rs)))
-      ∙ ap (λ (x : List Answer). map whole before ++ x) (unfold assemble in ap (λ (x : List Answer). corruption unknownType ∷ x) (puts-records limit b rs hr)))
-      (readsFrom-sees log limit (omega arith) (torn-on-sees rs d w))
+      ∙ ap (λ (x : List Placed). givenFrom 0 before ++ x) (unfold assembleAt in ap (λ (x : List Placed). lost unknownType ∷ x) (records-alone limit b rs hr)))
     where
       b : ℕ
       b = beyond (endOf 0 (s .frames))
@@ -188,13 +208,13 @@ module _ {n : ℕ} (limit : ℕ) {before : List (List ℕ)} {xs tail log₀ : Li
 
 module _ {n : ℕ} (limit : ℕ) {before : List (List ℕ)} {xs tail log : List ℕ} (fit : Fits limit before xs) (hn : 0 < n) (size : blocks log ≡ n) where
   pub clean-read : {l : Left} (s : Clean n before xs tail log l)
-      → Gives (Near (endOf 0 (s .frames))) (map whole before ++ (given l xs ++ (endOfLog ∷ []))) (readsFrom log limit fresh)
-  unfolding framesAll bytesOf placeAll
+      → GivesAt (Near (endOf 0 (s .frames))) (givenFrom 0 before ++ (givenAt l (placeAll 0 before) xs ++ (ended ∷ []))) log limit
+  unfolding framesAll bytesOf placeAll givenFrom
   clean-read s = clean-gives limit s fit hn [] tt log (s .k) size (s .is) (s .total)
 
   pub headed-read : (s : Headed n before xs tail log)
-      → Gives (Near (endsAt s)) (map whole before ++ (given headed xs ++ (endOfLog ∷ []))) (readsFrom log limit fresh)
-  unfolding framesAll bytesOf placeAll
+      → GivesAt (Near (endsAt s)) (givenFrom 0 before ++ (givenAt headed (placeAll 0 before) xs ++ (ended ∷ []))) log limit
+  unfolding framesAll bytesOf placeAll givenFrom
   headed-read s = headed-gives limit s fit hn [] tt log (s .k) size (s .is) (s .total)
 
   module _ (s : Torn n before xs tail log) where
@@ -231,12 +251,12 @@ module _ {n : ℕ} (limit : ℕ) {before : List (List ℕ)} {xs tail log : List 
     unfoldable pub tornPlace : ℕ
     tornPlace = cond (eqb (suc ((endOf 0 (s .frames) + padding (endOf 0 (s .frames))) / 32768)) n) (endOf 0 (s .frames) + padding (endOf 0 (s .frames))) (beyond (endOf 0 (s .frames)))
 
-    pub torn-read : (i : ℕ) → Gives (λ r. place r ≡ tornPlace) (map whole before ++ (given (torn i) xs ++ (endOfLog ∷ []))) (readsFrom log limit fresh)
+    pub torn-read : (i : ℕ) → GivesAt (λ r. place r ≡ tornPlace) (givenFrom 0 before ++ (givenAt (torn i) (placeAll 0 before) xs ++ (ended ∷ []))) log limit
     unfolding tornPlace
     torn-read i =
         let g = torn-gives limit s fit hn log (n * 32768 - b) size (zeros (s .k) ++ tail) (s .is) torn-beyond (omega (arith, beyond-inside)) i in
         record {
-          answers = g .answers;
+          placed = g .placed;
           left = λ f.
               g .left f ∙ torn-left log (endOf 0 (s .frames)) (n * 32768 - b) tail torn-beyond (omega (arith, beyond-inside))
               ∙ ap (λ (m : ℕ). cond (eqb (suc ((endOf 0 (s .frames) + padding (endOf 0 (s .frames))) / 32768)) m) (endOf 0 (s .frames) + padding (endOf 0 (s .frames))) b) size;
@@ -251,14 +271,21 @@ cut-blocks n limit c before xs tail h = omega (arith, log-size n limit c before 
 -- the answers, in each case
 cut-answers : (n limit c : ℕ) (before : List (List ℕ)) (xs tail : List ℕ) → Cutting n limit c before xs tail → (l : Left)
     → State n before xs tail (cutLog n before xs c ++ tail) l
-    → readsFrom (cutLog n before xs c ++ tail) limit fresh .answers ≡ map whole before ++ (given l xs ++ (endOfLog ∷ []))
-cut-answers n limit c before xs tail h l (is-clean s) = clean-read limit (h .limits, h .limit-next) (h .some-blocks) (cut-blocks n limit c before xs tail h) s .answers
+    → placedAll (cutLog n before xs c ++ tail) limit ≡ givenFrom 0 before ++ (givenAt l (placeAll 0 before) xs ++ (ended ∷ []))
+cut-answers n limit c before xs tail h l (is-clean s) = clean-read limit (h .limits, h .limit-next) (h .some-blocks) (cut-blocks n limit c before xs tail h) s .placed
 cut-answers n limit c before xs tail h l (is-headed s e) =
-    headed-read limit (h .limits, h .limit-next) (h .some-blocks) (cut-blocks n limit c before xs tail h) s .answers ∙ ap (λ (m : Left). map whole before ++ (given m xs ++ (endOfLog ∷ []))) (sym e)
+    headed-read limit (h .limits, h .limit-next) (h .some-blocks) (cut-blocks n limit c before xs tail h) s .placed ∙ ap (λ (m : Left). givenFrom 0 before ++ (givenAt m (placeAll 0 before) xs ++ (ended ∷ []))) (sym e)
 cut-answers n limit c before xs tail h l (is-torn s e) =
-    torn-read limit (h .limits, h .limit-next) (h .some-blocks) (cut-blocks n limit c before xs tail h) s (endOf 0 (s .frames) + padding (endOf 0 (s .frames))) .answers
-    ∙ ap (λ (m : Left). map whole before ++ (given m xs ++ (endOfLog ∷ []))) (sym e)
+    torn-read limit (h .limits, h .limit-next) (h .some-blocks) (cut-blocks n limit c before xs tail h) s (endOf 0 (s .frames) + padding (endOf 0 (s .frames))) .placed
+    ∙ ap (λ (m : Left). givenFrom 0 before ++ (givenAt m (placeAll 0 before) xs ++ (ended ∷ []))) (sym e)
+
+pub cut-placed : CutPlaced
+cut-placed n limit c before xs tail h = cut-answers n limit c before xs tail h (left c (framesOf (placeAll 0 before) xs)) (state n limit c before xs tail h)
 
 pub cut-read : CutRead
-unfolding readAll cutAnswers
-cut-read n limit c before xs tail h = cut-answers n limit c before xs tail h (left c (framesOf (placeAll 0 before) xs)) (state n limit c before xs tail h)
+unfolding cutAnswers forget
+cut-read n limit c before xs tail h =
+    let l : Left = left c (framesOf (placeAll 0 before) xs) in
+    sym (placed-forgets (cutLog n before xs c ++ tail) limit) ∙ ap (map forget) (cut-placed n limit c before xs tail h)
+    ∙ forget-from 0 before (givenAt l (placeAll 0 before) xs ++ (ended ∷ []))
+    ∙ ap (λ (s : List Answer). map whole before ++ s) (forget-given l (placeAll 0 before) xs (ended ∷ []))

@@ -18,14 +18,16 @@ use Rattle.frame.proofs.Headers.{header, le-sum}
 use Rattle.recordlog.specs.Write.{Frame, framesOf, bytesOf, placeAfter}
 use Rattle.recordlog.specs.Laid.{placeAll, laid}
 use Rattle.recordlog.specs.Claims.{Each}
-use Rattle.recordlog.specs.Read.{whole, idle}
-use Rattle.recordlog.proofs.Sees.{Event, assemble}
+use Rattle.recordlog.specs.Read.{idle}
+use Rattle.recordlog.specs.PlacedClaims.{givenFrom}
+use Rattle.recordlog.proofs.Sees.{Event}
+use Rattle.recordlog.proofs.Placed.{assembleAt}
 use Rattle.recordlog.proofs.Frames.{Stands, Laid, after, endOf, end-append, laid-left, laid-right, laid-append, length-bytes, bytes-append, framesAll, laid-all, end-all, owned}
 use Rattle.recordlog.proofs.Seen.{event}
 use Rattle.recordlog.proofs.Assemble.{Restarts}
 use Rattle.recordlog.proofs.Back.{log-length}
 use Rattle.cut.specs.Cut.{Left, complete, headed, nothing, torn, leftWhen, left, covered}
-use Rattle.cut.specs.Claims.{cutLog, given, Cutting}
+use Rattle.cut.specs.Claims.{cutLog, givenAt, Cutting}
 use Rattle.cut.proofs.Lists.{length-cut}
 use Rattle.recordlog.proofs.Append.{place-append}
 use Rattle.cut.proofs.Shape.{remains, Broken, Unbroken, Split, unbroken, broken, split-frames, cut-log}
@@ -44,7 +46,7 @@ pub record Clean (n : ℕ) (before : List (List ℕ)) (xs tail log : List ℕ) (
   pub is : log ≡ bytesOf frames ++ (zeros k ++ tail)
   pub total : endOf 0 frames + k ≡ n * 32768
   pub plain : (rs : List (List ℕ)) → covered n l rs ≡ false
-  pub puts : (limit : ℕ) → Fits limit before xs → (es : List Event) → Restarts limit es → assemble limit (map event frames ++ es) idle ≡ map whole before ++ (given l xs ++ assemble limit es idle)
+  pub puts : (limit : ℕ) → Fits limit before xs → (es : List Event) → Restarts limit es → assembleAt limit (map event frames ++ es) idle 0 ≡ givenFrom 0 before ++ (givenAt l (placeAll 0 before) xs ++ assembleAt limit es idle 0)
 
 -- frames, a whole header with other data, zeros
 pub record Headed (n : ℕ) (before : List (List ℕ)) (xs tail log : List ℕ) : Type 0 where
@@ -59,7 +61,7 @@ pub record Headed (n : ℕ) (before : List (List ℕ)) (xs tail log : List ℕ) 
   pub told : crc32 (typeNumber (at .kind) ∷ datas) ≡ le sum → ⊥
   pub is : log ≡ bytesOf frames ++ (zeros (padding (endOf 0 frames)) ++ header sum (length datas) (typeNumber (at .kind)) (datas ++ (zeros k ++ tail)))
   pub total : endOf 0 frames + padding (endOf 0 frames) + 7 + length datas + k ≡ n * 32768
-  pub puts : (limit : ℕ) → Fits limit before xs → (es : List Event) → Restarts limit es → assemble limit (map event frames ++ es) idle ≡ map whole before ++ assemble limit es idle
+  pub puts : (limit : ℕ) → Fits limit before xs → (es : List Event) → Restarts limit es → assembleAt limit (map event frames ++ es) idle 0 ≡ givenFrom 0 before ++ assembleAt limit es idle 0
 
 -- frames, seven bytes that are a part of a header, zeros
 pub record Torn (n : ℕ) (before : List (List ℕ)) (xs tail log : List ℕ) : Type 0 where
@@ -72,7 +74,7 @@ pub record Torn (n : ℕ) (before : List (List ℕ)) (xs tail log : List ℕ) : 
   pub untyped : getD seven 6 0 ≡ 0
   pub is : log ≡ bytesOf frames ++ (zeros (padding (endOf 0 frames)) ++ (seven ++ (zeros k ++ tail)))
   pub total : endOf 0 frames + padding (endOf 0 frames) + 7 + k ≡ n * 32768
-  pub puts : (limit : ℕ) → Fits limit before xs → (es : List Event) → Restarts limit es → assemble limit (map event frames ++ es) idle ≡ map whole before ++ assemble limit es idle
+  pub puts : (limit : ℕ) → Fits limit before xs → (es : List Event) → Restarts limit es → assembleAt limit (map event frames ++ es) idle 0 ≡ givenFrom 0 before ++ assembleAt limit es idle 0
 
 pub data State (n : ℕ) (before : List (List ℕ)) (xs tail log : List ℕ) (l : Left) : Type 0 where
   is-clean : Clean n before xs tail log l → State n before xs tail log l
@@ -92,7 +94,7 @@ module _ (n limit c : ℕ) (before : List (List ℕ)) (xs tail : List ℕ) (h : 
       )
 
   all-stored : Unbroken c (placeAll 0 before) (framesOf (placeAll 0 before) xs) → Clean n before xs tail (cutLog n before xs c ++ tail) complete
-  unfolding given covered
+  unfolding givenAt covered
   all-stored u = record {
     frames = framesAll 0 before ++ framesOf (placeAll 0 before) xs;
     k = n * 32768 - placeAfter (placeAll 0 before) xs;
@@ -182,7 +184,7 @@ module _ (n limit c : ℕ) (before : List (List ℕ)) (xs tail : List ℕ) (h : 
         m : ℕ
         m = n * 32768 - placeAfter (placeAll 0 before) xs
 
-    puts-it : (m : ℕ) → Fits m before xs → (es : List Event) → Restarts m es → assemble m (map event before-it ++ es) idle ≡ map whole before ++ assemble m es idle
+    puts-it : (m : ℕ) → Fits m before xs → (es : List Event) → Restarts m es → assembleAt m (map event before-it ++ es) idle 0 ≡ givenFrom 0 before ++ assembleAt m es idle 0
     unfolding before-it
     puts-it m g es on = puts-broken m before xs es (g .0) (g .1) (b .pre) (b .at) (b .post) (b .split) on
 
@@ -207,7 +209,7 @@ module _ (n limit c : ℕ) (before : List (List ℕ)) (xs tail : List ℕ) (h : 
         size = length-cut (c - (b .at .start + 7)) (b .at .content)
 
     no-bytes : allZero (take (c - b .at .start) (frameBytes (b .at .kind) (b .at .content))) ≡ true → Clean n before xs tail (cutLog n before xs c ++ tail) nothing
-    unfolding e given covered
+    unfolding e givenAt covered
     no-bytes z = record {
       frames = before-it;
       k = padding e + (7 + length (b .at .content) + k);

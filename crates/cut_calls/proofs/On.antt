@@ -17,21 +17,24 @@ use Rattle.queues.specs.Queues.{Queue, Capacities}
 use Rattle.calls.specs.State.{State}
 use Rattle.calls.specs.Calls.{callOf}
 use Rattle.calls.specs.Reading.{ReadAnswer, gaveRecord, gaveEnd, answerOf, readings}
+use Rattle.calls.specs.Told.{Blocked, Told, toldRecord, toldEnd, tell, placedReadings}
+use Rattle.recordlog.specs.Placed.{ended, placedAll}
+use Rattle.recordlog.specs.PlacedClaims.{givenFrom}
 use Rattle.calls.specs.Replay.{Outcome, left, andThen, replayAnswers, replayRecords, replayOf}
-use Rattle.calls.specs.Machine.{Listed, Machine, Fed, recordsOf, NoneLonger}
+use Rattle.calls.specs.Machine.{Listed, Machine, Fed, recordsOf, blocksOf, NoneLonger}
 use Rattle.calls.proofs.AnyLog.{resumes-in-log}
-use Rattle.calls.proofs.Arranged.{Arrangement, none-arranged, records-arranged}
+use Rattle.calls.proofs.Arranged.{Arrangement, none-arranged, recordsIn, records-arranged}
 use Rattle.calls.proofs.Replaying.{replay-all, replay-corrupt, records-append}
-use Rattle.calls.proofs.Answers.{Formed, readings-same, records-given}
-use Rattle.calls.proofs.Follows.{encodings, map-append, Standing}
-use Rattle.calls.proofs.Runs.{log-legal, each-limit}
+use Rattle.calls.proofs.Answers.{Formed, readings-same, records-given, placed-legal}
+use Rattle.calls.proofs.Follows.{encodings, map-append, Owns, Standing}
+use Rattle.calls.proofs.Runs.{log-legal, each-limit, given-listed}
 use Rattle.cut.specs.Cut.{Unfit, Left, complete, headed, nothing, torn, covered}
-use Rattle.cut.specs.Claims.{cutLog, given, writeAll, givenAfter}
+use Rattle.cut.specs.Claims.{cutLog, given, givenAt, writeAll, givenAfter, givenAfterAt}
 use Rattle.cut.specs.Cut.{left as leftBy}
-use Rattle.cut.proofs.After.{cut-written}
+use Rattle.cut.proofs.After.{cut-written, cut-written-placed}
 use Rattle.cut_calls.specs.Claims.{cutOf, reopened, StatesSince, recordsSince, StatesAfterCalls, StatesPowerCutOn}
 use Rattle.cut_calls.specs.CutRecord.{cutAnswered, keptOf, machineFrom, answeredAfter}
-use Rattle.cut_calls.proofs.PowerCut.{answers-back, own, limits, formed, cutting, cut-is, cut-length, replaying-cut, known}
+use Rattle.cut_calls.proofs.PowerCut.{answers-back, cutTold, told-back, own, limits, formed, cutting, cut-is, cut-length, replaying-cut, known}
 use Rattle.cut_calls.proofs.Since.{Going, Gone, follows-on}
 
 -- ---- answers
@@ -45,36 +48,51 @@ answers-after n l r rs f = go (covered n l (map encode rs))
     go false = answers-back l r f
 
 -- records on both sides of nothing
-joined-records : (c : Capacities) (before rs : List Record) → replayAnswers c [] (map gaveRecord before ++ (map gaveRecord rs ++ (gaveEnd ∷ []))) ≡ replayRecords c [] (before ++ rs)
+joined-records : (c : Capacities) (before rs : List Blocked) → replayAnswers c [] (map toldRecord before ++ (map toldRecord rs ++ (toldEnd ∷ []))) ≡ replayRecords c [] (before ++ rs)
 joined-records c before rs =
     ap (replayAnswers c [])
-    (sym (ap (λ (a : List ReadAnswer). a ++ (gaveEnd ∷ [])) (map-append gaveRecord before rs) ∙ append-assoc (map gaveRecord before) (map gaveRecord rs) (gaveEnd ∷ [])))
+    (sym (ap (λ (a : List Told). a ++ (toldEnd ∷ [])) (map-append toldRecord before rs) ∙ append-assoc (map toldRecord before) (map toldRecord rs) (toldEnd ∷ [])))
     ∙ replay-all c [] (before ++ rs)
 
-replays-after : (c : Capacities) (n : ℕ) (before : List Record) (l : Left) (r : Record) (rs : List Record)
-    → replayAnswers c [] (map gaveRecord before ++ (answeredAfter n l r rs ++ (map gaveRecord rs ++ (gaveEnd ∷ [])))) ≡ replayRecords c [] (before ++ (keptOf l r ++ rs))
-unfolding answeredAfter cutAnswered keptOf covered
-replays-after c n before complete r rs = joined-records c before (r ∷ rs)
-replays-after c n before headed r rs = replay-corrupt c [] before rs _
-replays-after c n before nothing r rs = joined-records c before rs
+-- what replay takes between the records before and those written
+unfoldable toldAfter : ℕ → Left → Listed → List Record → List Told
+toldAfter n l r rs = cond (covered n l (map encode rs)) [] (cutTold l r)
+
+told-after : (n : ℕ) (l : Left) (p : ℕ) (r : Listed) (rs : List Record) → r .frames ≡ framesOf p (encode (r .written)) → WellFormed (r .written)
+    → map tell (givenAfterAt n l p (encode (r .written)) (map encode rs)) ≡ toldAfter n l r rs
+unfolding givenAfterAt toldAfter
+told-after n l p r rs o f = go (covered n l (map encode rs))
+  where
+    go : (b : Bool) → map tell (cond b [] (givenAt l p (encode (r .written)))) ≡ cond b [] (cutTold l r)
+    go true = refl
+    go false = told-back l p r o f
+
+replays-after : (c : Capacities) (n : ℕ) (before : List Blocked) (l : Left) (r : Listed) (ls : List Listed)
+    → replayAnswers c [] (map toldRecord before ++ (toldAfter n l r (recordsOf ls) ++ (map toldRecord (blocksOf ls) ++ (toldEnd ∷ []))))
+    ≡ replayRecords c [] (before ++ (blocksOf (keptOf l r) ++ blocksOf ls))
+unfolding toldAfter cutTold keptOf covered
+replays-after c n before complete r ls = joined-records c before (blocksOf (r ∷ ls))
+replays-after c n before headed r ls = replay-corrupt c [] before (blocksOf ls) _
+replays-after c n before nothing r ls = joined-records c before (blocksOf ls)
 replays-after c n before (torn s) r [] = replay-corrupt c [] before [] _
-replays-after c n before (torn s) r (q ∷ rs) = go (eqb (suc (s / 32768)) n)
+replays-after c n before (torn s) r (q ∷ ls) = go (eqb (suc (s / 32768)) n)
   where
     go : (b : Bool)
-        → replayAnswers c [] (map gaveRecord before ++ (cond b [] (cutAnswered (torn s) r) ++ (map gaveRecord (q ∷ rs) ++ (gaveEnd ∷ [])))) ≡ replayRecords c [] (before ++ (q ∷ rs))
-    go true = joined-records c before (q ∷ rs)
-    go false = unfold cutAnswered in replay-corrupt c [] before (q ∷ rs) _
+        → replayAnswers c [] (map toldRecord before ++ (cond b [] (cutTold (torn s) r) ++ (map toldRecord (blocksOf (q ∷ ls)) ++ (toldEnd ∷ []))))
+        ≡ replayRecords c [] (before ++ blocksOf (q ∷ ls))
+    go true = joined-records c before (blocksOf (q ∷ ls))
+    go false = unfold cutTold in replay-corrupt c [] before (blocksOf (q ∷ ls)) _
 
-formed-kept : (before : List Record) (l : Left) (r : Record) → Formed before → WellFormed r → Formed (before ++ keptOf l r)
+formed-one : (l : Left) (r : Listed) → WellFormed (r .written) → Formed (recordsIn (blocksOf (keptOf l r)))
 unfolding keptOf
-formed-kept before complete r a b = behind before a
-  where
-    behind : (rs : List Record) → Formed rs → Formed (rs ++ (r ∷ []))
-    behind [] w = (b, tt)
-    behind (q ∷ rs) w = (w .0, behind rs (w .1))
-formed-kept before headed r a b = subst Formed (sym (append-nil before)) a
-formed-kept before nothing r a b = subst Formed (sym (append-nil before)) a
-formed-kept before (torn s) r a b = subst Formed (sym (append-nil before)) a
+formed-one complete r b = (b, tt)
+formed-one headed r b = tt
+formed-one nothing r b = tt
+formed-one (torn s) r b = tt
+
+formed-kept : (ls : List Listed) (l : Left) (r : Listed) → Formed (recordsOf ls) → WellFormed (r .written) → Formed (recordsIn (blocksOf ls ++ blocksOf (keptOf l r)))
+formed-kept [] l r a b = formed-one l r b
+formed-kept (q ∷ ls) l r a b = (a .0, formed-kept ls l r (a .1) b)
 
 -- ---- the log after
 
@@ -94,13 +112,13 @@ module _ (s s′ : State) (ls : List Listed) (l : Listed) (w : Standing s ls) (v
   size : length (take c (s′ .log) ++ drop c (s .log)) ≡ w .number * 32768 + length (w .tail)
   size = cut-length s s′ ls l w v same c limit low high unfit none
 
-  replayed : replayRecords m [] (recordsOf ls ++ keptOf (leftBy c (l .frames)) (l .written)) ≡ left qs
+  replayed : replayRecords m [] (blocksOf ls ++ blocksOf (keptOf (leftBy c (l .frames)) l)) ≡ left qs
   replayed = sym (replaying-cut s s′ ls l w v same c limit low high unfit none m) ∙ opened
 
   arr : Arrangement m qs
   arr =
-      records-arranged m [] qs (recordsOf ls ++ keptOf (leftBy c (l .frames)) (l .written))
-      (formed-kept (recordsOf ls) (leftBy c (l .frames)) (l .written) (formed-parts .0) (formed-parts .1)) (none-arranged m) replayed
+      records-arranged m [] qs (blocksOf ls ++ blocksOf (keptOf (leftBy c (l .frames)) l))
+      (formed-kept ls (leftBy c (l .frames)) l (formed-parts .0) (formed-parts .1)) (none-arranged m) replayed
 
   start : Machine
   start = record { records = []; queues = qs; place = resume (take c (s′ .log) ++ drop c (s .log)) limit }
@@ -117,6 +135,7 @@ module _ (s s′ : State) (ls : List Listed) (l : Listed) (w : Standing s ls) (v
       size = omega (arith, size, w .short);
       same-length = refl;
       formed = tt;
+      owns = tt;
       sound = refl;
       same-room = refl;
       replayed = refl;
@@ -170,15 +189,60 @@ module _ (s s′ : State) (ls : List Listed) (l : Listed) (w : Standing s ls) (v
         fits : Each (λ ys. length ys ≤ again) (encodings ls) × (length (encode (l .written)) ≤ again)
         fits = limits s s′ ls l w v same c again low high unfit none₁
 
+    placing-on : placedReadings (s₂ .log) again
+        ≡ map toldRecord (blocksOf ls) ++ (toldAfter (w .number) (leftBy c (l .frames)) l (recordsOf (gone .list)) ++ (map toldRecord (blocksOf (gone .list)) ++ (toldEnd ∷ [])))
+    unfolding tell cut q
+    placing-on =
+        placed-legal (s₂ .log) again (log-legal (s₂ .log) (w .number) (length (w .tail)) (g .same-length ∙ size) (w .short) (w .some) (w .most))
+        ∙ ap (λ (log : List ℕ). map tell (placedAll log again)) (g .log-is)
+        ∙ ap (λ (log : List ℕ). map tell (placedAll (writeAll log (resume log limit) after) again)) is
+        ∙ ap (map tell)
+        (cut-written-placed (w .number) limit again c (encodings ls) xs (w .tail) after (cutting s s′ ls l w v same c limit low high unfit none)
+        (subst (λ (log : List ℕ). placeAll (resume log limit) after ≤ w .number * 32768) is (g .room))
+        (fits .0) (fits .1) (each-limit again (gone .list) (subst (NoneLonger again) records-are none₂)))
+        ∙ map-append tell (givenFrom 0 (encodings ls)) (givenAfterAt (w .number) left-is p xs after ++ (givenFrom q′ after ++ (ended ∷ [])))
+        ∙ ap₂ (λ (a b : List Told). a ++ b) (given-listed 0 ls (w .owns) (formed-parts .0))
+        (map-append tell (givenAfterAt (w .number) left-is p xs after) (givenFrom q′ after ++ (ended ∷ []))
+        ∙ ap₂ (λ (a b : List Told). a ++ b)
+        (told-after (w .number) left-is p l (recordsOf (gone .list)) (own s s′ ls l w v same c limit low high unfit none) (formed-parts .1)
+        ∙ ap (λ (fs : List Frame). toldAfter (w .number) (leftBy c fs) l (recordsOf (gone .list))) (sym (own s s′ ls l w v same c limit low high unfit none)))
+        (map-append tell (givenFrom q′ after) (ended ∷ [])
+        ∙ ap (λ (a : List Told). a ++ (toldEnd ∷ []))
+        (given-listed q′ (gone .list) (subst (λ (log : List ℕ). Owns (resume log limit) (gone .list)) is (g .owns)) (g .formed))))
+      where
+        g : Going cut q (w .number) m qs s₂ (gone .list)
+        g = gone .going
+
+        xs : List ℕ
+        xs = encode (l .written)
+
+        after : List (List ℕ)
+        after = encodings (gone .list)
+
+        p : ℕ
+        p = placeAll 0 (encodings ls)
+
+        q′ : ℕ
+        q′ = resume (cutLog (w .number) (encodings ls) (encode (l .written)) c ++ w .tail) limit
+
+        left-is : Left
+        left-is = leftBy c (framesOf (placeAll 0 (encodings ls)) (encode (l .written)))
+
+        is : take c (s′ .log) ++ drop c (s .log) ≡ cutLog (w .number) (encodings ls) (encode (l .written)) c ++ w .tail
+        is = cut-is s s′ ls l w v same c limit low high unfit none
+
+        fits : Each (λ ys. length ys ≤ again) (encodings ls) × (length (encode (l .written)) ≤ again)
+        fits = limits s s′ ls l w v same c again low high unfit none₁
+
     replay-on : replayOf (s₂ .log) (s₂ .capacities) again ≡ left (s₂ .queues)
     unfolding replayOf andThen
     replay-on =
-        ap (λ (x : Capacities). replayAnswers x [] (readings (s₂ .log) again)) (gone .going .same-room)
-        ∙ ap (replayAnswers m []) reading-on
-        ∙ replays-after m (w .number) (recordsOf ls) (leftBy c (l .frames)) (l .written) (recordsOf (gone .list))
-        ∙ ap (replayRecords m []) (sym (append-assoc (recordsOf ls) (keptOf (leftBy c (l .frames)) (l .written)) (recordsOf (gone .list))))
-        ∙ records-append m [] (recordsOf ls ++ keptOf (leftBy c (l .frames)) (l .written)) (recordsOf (gone .list))
-        ∙ ap (λ (o : Outcome). andThen o (λ (x : List Queue). replayRecords m x (recordsOf (gone .list)))) replayed
+        ap (λ (x : Capacities). replayAnswers x [] (placedReadings (s₂ .log) again)) (gone .going .same-room)
+        ∙ ap (replayAnswers m []) placing-on
+        ∙ replays-after m (w .number) (blocksOf ls) (leftBy c (l .frames)) l (gone .list)
+        ∙ ap (replayRecords m []) (sym (append-assoc (blocksOf ls) (blocksOf (keptOf (leftBy c (l .frames)) l)) (blocksOf (gone .list))))
+        ∙ records-append m [] (blocksOf ls ++ blocksOf (keptOf (leftBy c (l .frames)) l)) (blocksOf (gone .list))
+        ∙ ap (λ (o : Outcome). andThen o (λ (x : List Queue). replayRecords m x (blocksOf (gone .list)))) replayed
         ∙ gone .going .replayed
 
     after-calls : StatesAfterCalls (recordsOf ls) (l .written) (leftBy c (l .frames)) (recordsOf (machineFrom start h₂ .records)) s₂ again

@@ -13,6 +13,9 @@ use Rattle.recordlog.specs.Write.{Frame, framesOf, placeAfter, recordBytes}
 use Rattle.recordlog.specs.Laid.{placeAll, laid}
 use Rattle.recordlog.specs.Claims.{readAll, Each}
 use Rattle.recordlog.specs.Read.{whole, endOfLog}
+use Rattle.frame.specs.declared.Corruption.the-variants.{WrongChecksum as wrongChecksum, UnknownType as unknownType}
+use Rattle.recordlog.specs.Placed.{ended, placedAll}
+use Rattle.recordlog.specs.PlacedClaims.{givenFrom}
 use Rattle.recordlog.proofs.Frames.{length-record}
 use Rattle.record.specs.Record.{Record, encode}
 use Rattle.record.specs.Fits.{WellFormed}
@@ -21,22 +24,23 @@ use Rattle.queues.specs.Queues.{Queue, Position, Capacities}
 use Rattle.calls.specs.State.{State, Call, createCall, deleteCall, truncateCall, appendCall, markCall, Returned}
 use Rattle.calls.specs.Payloads.{firstPosition, givesEmpty}
 use Rattle.calls.specs.Refusals.{nextNamed, refusalsOf, refusalOf}
-use Rattle.calls.specs.Calls.{logged, wrote, createDone, deleteDone, truncateDone, emptyAnswer, appendTaking, appendDone, marked, markDone, doneOf, callOf}
-use Rattle.calls.specs.Reading.{ReadAnswer, gaveRecord, gaveEnd, ofRecord, answerOf, readings}
+use Rattle.calls.specs.Calls.{logged, wrote, createDone, deleteDone, truncateDone, emptyAnswer, appendTaking, appendDone, doneOf, callOf, marked, markDone}
+use Rattle.calls.specs.Reading.{ReadAnswer, gaveRecord, gaveEnd, ofRecord, answerOf, readings, lostFrame}
+use Rattle.calls.specs.Told.{Blocked, blocked, Told, toldRecord, toldCorruption, toldEnd, tell, placedReadings}
 use Rattle.calls.specs.Replay.{replayAnswers, replayRecords, replayOf}
-use Rattle.calls.specs.Machine.{Listed, Machine, Fed, machineCall, machine, recordsOf, NoneLonger}
+use Rattle.calls.specs.Machine.{Listed, Machine, Fed, machineCall, machine, recordsOf, firstBlock, blocksOf, NoneLonger}
 use Rattle.calls.specs.Run.{StatesRun}
 use Rattle.calls.proofs.Passed.{create-passed, delete-passed, truncate-passed, AppendPassed, append-passed, mark-passed}
 use Rattle.calls.proofs.Done.{call-done}
 use Rattle.calls.proofs.Replaying.{replay-all, replay-corrupt}
-use Rattle.calls.proofs.Answers.{Formed, readings-same, records-given}
-use Rattle.calls.proofs.Follows.{encodings, map-append, records-of-append, encodings-append, Owns, Standing, log-size, machineOf}
+use Rattle.calls.proofs.Answers.{Formed, readings-same, records-given, placed-legal}
+use Rattle.calls.proofs.Follows.{encodings, map-append, records-of-append, blocks-of-append, encodings-append, Owns, Standing, log-size, machineOf}
 use Rattle.calls.proofs.Steps.{Stepped, stepped, follows}
-use Rattle.calls.proofs.Runs.{log-legal, each-limit}
+use Rattle.calls.proofs.Runs.{log-legal, each-limit, one-listed, given-listed}
 use Rattle.cut.specs.Cut.{Unfit, Left, complete, headed, nothing, torn}
-use Rattle.cut.specs.Claims.{cutLog, given, cutAnswers, Cutting}
+use Rattle.cut.specs.Claims.{cutLog, given, givenAt, cutAnswers, Cutting}
 use Rattle.cut.specs.Cut.{left as leftBy}
-use Rattle.cut.proofs.Reading.{cut-read}
+use Rattle.cut.proofs.Reading.{cut-read, cut-placed}
 use Rattle.cut.proofs.Origin.{cut-of-writing}
 use Rattle.recordlog.proofs.Append.{place-append}
 use Rattle.cut.proofs.State.{log-size as cut-size}
@@ -79,13 +83,28 @@ answers-back headed r f = refl
 answers-back nothing r f = refl
 answers-back (torn s) r f = refl
 
-replays-back : (c : Capacities) (before : List Record) (l : Left) (r : Record)
-    → replayAnswers c [] (map gaveRecord before ++ (cutAnswered l r ++ (gaveEnd ∷ []))) ≡ replayRecords c [] (before ++ keptOf l r)
-unfolding cutAnswered keptOf
+-- what replay takes of the record that was cut
+unfoldable pub cutTold : Left → Listed → List Told
+cutTold complete r = toldRecord (blocked (firstBlock (r .frames)) (r .written)) ∷ []
+cutTold headed r = toldCorruption (lostFrame wrongChecksum) ∷ []
+cutTold nothing r = []
+cutTold (torn s) r = toldCorruption (lostFrame unknownType) ∷ []
+
+pub told-back : (l : Left) (p : ℕ) (r : Listed) → r .frames ≡ framesOf p (encode (r .written)) → WellFormed (r .written) → map tell (givenAt l p (encode (r .written))) ≡ cutTold l r
+unfolding givenAt cutTold tell
+told-back complete p r o f = ap (λ (t : Told). t ∷ []) (one-listed p r o f)
+told-back headed p r o f = refl
+told-back nothing p r o f = refl
+told-back (torn s) p r o f = refl
+
+replays-back : (c : Capacities) (before : List Blocked) (l : Left) (r : Listed)
+    → replayAnswers c [] (map toldRecord before ++ (cutTold l r ++ (toldEnd ∷ []))) ≡ replayRecords c [] (before ++ blocksOf (keptOf l r))
+unfolding cutTold keptOf
 replays-back c before complete r =
+    let x : Blocked = blocked (firstBlock (r .frames)) (r .written) in
     ap (replayAnswers c [])
-    (sym (ap (λ (a : List ReadAnswer). a ++ (gaveEnd ∷ [])) (map-append gaveRecord before (r ∷ [])) ∙ append-assoc (map gaveRecord before) (gaveRecord r ∷ []) (gaveEnd ∷ [])))
-    ∙ replay-all c [] (before ++ (r ∷ []))
+    (sym (ap (λ (a : List Told). a ++ (toldEnd ∷ [])) (map-append toldRecord before (x ∷ [])) ∙ append-assoc (map toldRecord before) (toldRecord x ∷ []) (toldEnd ∷ [])))
+    ∙ replay-all c [] (before ++ (x ∷ []))
 replays-back c before headed r = replay-corrupt c [] before [] _
 replays-back c before nothing r = replay-all c [] before ∙ ap (replayRecords c []) (sym (append-nil before))
 replays-back c before (torn s) r = replay-corrupt c [] before [] _
@@ -164,27 +183,41 @@ module _ (s s′ : State) (ls : List Listed) (l : Listed) (w : Standing s ls) (v
       (answers-back (leftBy c (framesOf (placeAll 0 (encodings ls)) (encode (l .written)))) (l .written) (formed .1)
       ∙ ap (λ (fs : List Frame). cutAnswered (leftBy c fs) (l .written)) (sym own)))
 
-  pub replaying-cut : (m : Capacities) → replayOf (take c (s′ .log) ++ drop c (s .log)) m limit ≡ replayRecords m [] (recordsOf ls ++ keptOf (leftBy c (l .frames)) (l .written))
+  pub placing-cut : placedReadings (take c (s′ .log) ++ drop c (s .log)) limit ≡ map toldRecord (blocksOf ls) ++ (cutTold (leftBy c (l .frames)) l ++ (toldEnd ∷ []))
+  unfolding tell
+  placing-cut =
+      let p : ℕ = placeAll 0 (encodings ls) in
+      let x : Left = leftBy c (framesOf p (encode (l .written))) in
+      placed-legal (take c (s′ .log) ++ drop c (s .log)) limit (log-legal (take c (s′ .log) ++ drop c (s .log)) (w .number) (length (w .tail)) cut-length (w .short) (w .some) (w .most))
+      ∙ ap (λ (log : List ℕ). map tell (placedAll log limit)) cut-is
+      ∙ ap (map tell) (cut-placed (w .number) limit c (encodings ls) (encode (l .written)) (w .tail) cutting)
+      ∙ map-append tell (givenFrom 0 (encodings ls)) (givenAt x p (encode (l .written)) ++ (ended ∷ []))
+      ∙ ap₂ (λ (a b : List Told). a ++ b) (given-listed 0 ls (w .owns) (formed .0))
+      (map-append tell (givenAt x p (encode (l .written))) (ended ∷ [])
+      ∙ ap (λ (a : List Told). a ++ (toldEnd ∷ []))
+      (told-back x p l own (formed .1) ∙ ap (λ (fs : List Frame). cutTold (leftBy c fs) l) (sym own)))
+
+  pub replaying-cut : (m : Capacities) → replayOf (take c (s′ .log) ++ drop c (s .log)) m limit ≡ replayRecords m [] (blocksOf ls ++ blocksOf (keptOf (leftBy c (l .frames)) l))
   unfolding replayOf
-  replaying-cut m = ap (replayAnswers m []) reading-cut ∙ replays-back m (recordsOf ls) (leftBy c (l .frames)) (l .written)
+  replaying-cut m = ap (replayAnswers m []) placing-cut ∙ replays-back m (blocksOf ls) (leftBy c (l .frames)) l
 
 -- ---- after every list of calls
 
 module _ (s : State) (ls : List Listed) (w : Standing s ls) (k : Call) (l : Listed) (v : Standing (callOf s k .state) (ls ++ (l ∷ [])))
     (same : length (callOf s k .state .log) ≡ length (s .log)) (c limit : ℕ) (low : s .place ≤ c) (high : c ≤ callOf s k .state .place)
     (unfit : Unfit c (l .frames)) (none : NoneLonger limit (ls ++ (l ∷ []))) where
-  after-cut : StatesAfterCut s k (recordsOf ls) (l .written) (leftBy c (l .frames)) (cutOf s k c) limit
+  after-cut : StatesAfterCut s k ls l (leftBy c (l .frames)) (cutOf s k c) limit
   after-cut = record {
     reading = reading-cut s (callOf s k .state) ls l w v same c limit low high unfit none;
     replay = again;
     replay-before = λ e.
-        again (s .capacities) ∙ ap (replayRecords (s .capacities) []) (ap (λ (rs : List Record). recordsOf ls ++ rs) e ∙ append-nil (recordsOf ls)) ∙ w .replayed;
+        again (s .capacities) ∙ ap (replayRecords (s .capacities) []) (ap (λ (rs : List Listed). blocksOf ls ++ blocksOf rs) e ∙ append-nil (blocksOf ls)) ∙ w .replayed;
     replay-after = λ e.
         again (callOf s k .state .capacities)
-        ∙ ap (replayRecords (callOf s k .state .capacities) []) (ap (λ (rs : List Record). recordsOf ls ++ rs) e ∙ sym (records-of-append ls (l ∷ []))) ∙ v .replayed;
+        ∙ ap (replayRecords (callOf s k .state .capacities) []) (ap (λ (rs : List Listed). blocksOf ls ++ blocksOf rs) e ∙ sym (blocks-of-append ls (l ∷ []))) ∙ v .replayed;
   }
     where
-      again : (m : Capacities) → replayOf (cutOf s k c) m limit ≡ replayRecords m [] (recordsOf ls ++ keptOf (leftBy c (l .frames)) (l .written))
+      again : (m : Capacities) → replayOf (cutOf s k c) m limit ≡ replayRecords m [] (blocksOf ls ++ blocksOf (keptOf (leftBy c (l .frames)) l))
       again = replaying-cut s (callOf s k .state) ls l w v same c limit low high unfit none
 
 -- what is known of a call that writes a record
@@ -222,5 +255,5 @@ known h s r k l wr = record { list = follows r .list; records-is = records-is; s
 pub states-power-cut : StatesPowerCut
 states-power-cut h s r k l wr c limit low high unfit none =
     let w = known h s r k l wr in
-    subst (λ (ms : List Listed). StatesAfterCut s k (recordsOf ms) (l .written) (leftBy c (l .frames)) (cutOf s k c) limit) (sym (w .records-is))
+    subst (λ (ms : List Listed). StatesAfterCut s k ms l (leftBy c (l .frames)) (cutOf s k c) limit) (sym (w .records-is))
     (after-cut s (w .list) (w .stands) k l (w .stands-after) (w .same) c limit low high unfit (subst (λ (ms : List Listed). NoneLonger limit (ms ++ (l ∷ []))) (w .records-is) none))

@@ -11,7 +11,8 @@ use borrow.Author.Tests.{ne-eqb}
 use Rattle.slices.specs.Put.{put}
 use Rattle.slices.proofs.Put.{length-put}
 use Rattle.frame.specs.Block.{blocks}
-use Rattle.recordlog.specs.Write.{placeAfter, recordBytes}
+use Rattle.recordlog.specs.Write.{framesOf, placeAfter, recordBytes}
+use Rattle.recordlog.specs.Placed.{headerBlock}
 use Rattle.recordlog.specs.Laid.{placeAll}
 use Rattle.recordlog.proofs.Frames.{length-record}
 use Rattle.record.specs.Record.{Record, encode}
@@ -21,11 +22,11 @@ use Rattle.calls.specs.State.{State, Call, CallAnswer, Typed}
 use Rattle.calls.specs.Refusals.{refusalOf}
 use Rattle.calls.specs.Calls.{logged, doneOf, returnedBy, callOf}
 use Rattle.calls.specs.Replay.{Outcome, left, andThen, replayRecord, replayRecords}
-use Rattle.calls.specs.Machine.{Listed, Machine, Fed, puts, machineCall, wasRefused, recordsOf}
+use Rattle.calls.specs.Machine.{Listed, Machine, Fed, puts, machineCall, wasRefused, recordsOf, blocksOf}
 use Rattle.calls.proofs.Replaying.{records-append}
 use Rattle.calls.proofs.Answers.{Formed}
 use Rattle.calls.proofs.Arranged.{Arrangement, records-arranged}
-use Rattle.calls.proofs.Follows.{encodings, records-of-append, encodings-append, machineOf, listed}
+use Rattle.calls.proofs.Follows.{encodings, records-of-append, blocks-of-append, blocks-records, first-block, encodings-append, Owns, owns-snoc, machineOf, listed}
 use Rattle.calls.proofs.Steps.{done-zero}
 use Rattle.cut.specs.Claims.{writeAll}
 use Rattle.recordlog.proofs.Append.{place-append}
@@ -51,9 +52,10 @@ pub record Going (log : List ℕ) (q n : ℕ) (m : Capacities) (qs : List Queue)
   pub size : blocks (s .log) ≡ n
   pub same-length : length (s .log) ≡ length log
   pub formed : Formed (recordsOf ls)
+  pub owns : Owns q ls
   pub sound : s .arranged ≡ true
   pub same-room : s .capacities ≡ m
-  pub replayed : replayRecords m qs (recordsOf ls) ≡ left (s .queues)
+  pub replayed : replayRecords m qs (blocksOf ls) ≡ left (s .queues)
 
 -- the machine, and what holds
 pub record Gone (log : List ℕ) (q n : ℕ) (c : Capacities) (qs : List Queue) (s : State) (m : Machine) : Type 0 where
@@ -64,7 +66,7 @@ pub record Gone (log : List ℕ) (q n : ℕ) (c : Capacities) (qs : List Queue) 
 module _ (log : List ℕ) (q n : ℕ) (c : Capacities) (qs₀ : List Queue) (arr : Arrangement c qs₀) where
   -- a record more
   one-more : (s : State) (ls : List Listed) (g : Going log q n c qs₀ s ls) (r : Record) (qs : List Queue) → WellFormed r
-      → placeAfter (s .place) (encode r) ≤ blocks (s .log) * 32768 → replayRecord (s .capacities) (s .queues) r ≡ left qs
+      → placeAfter (s .place) (encode r) ≤ blocks (s .log) * 32768 → replayRecord (s .capacities) (s .queues) (headerBlock (s .place)) r ≡ left qs
       → Going log q n c qs₀ (logged s r qs) (ls ++ (listed s r ∷ []))
   unfolding logged replayRecords andThen placeAll
   one-more s ls g r qs f room e = record {
@@ -76,13 +78,16 @@ module _ (log : List ℕ) (q n : ℕ) (c : Capacities) (qs₀ : List Queue) (arr
     size = omega (arith, long, g .size);
     same-length = long ∙ g .same-length;
     formed = subst Formed (sym (records-of-append ls (listed s r ∷ []))) (formed-append (recordsOf ls) r (g .formed) f);
+    owns = owns-snoc q ls (listed s r) (g .owns) (ap (λ (i : ℕ). framesOf i (encode r)) (g .place-is));
     sound = refl;
     same-room = g .same-room;
     replayed =
-        ap (replayRecords c qs₀) (records-of-append ls (listed s r ∷ []))
-        ∙ records-append c qs₀ (recordsOf ls) (r ∷ [])
-        ∙ ap (λ (o : Outcome). andThen o (λ (x : List Queue). replayRecords c x (r ∷ []))) (g .replayed)
-        ∙ ap (λ (o : Outcome). andThen o (λ (x : List Queue). replayRecords c x [])) (ap (λ (m : Capacities). replayRecord m (s .queues) r) (sym (g .same-room)) ∙ e);
+        ap (replayRecords c qs₀) (blocks-of-append ls (listed s r ∷ []))
+        ∙ records-append c qs₀ (blocksOf ls) (blocksOf (listed s r ∷ []))
+        ∙ ap (λ (o : Outcome). andThen o (λ (x : List Queue). replayRecords c x (blocksOf (listed s r ∷ [])))) (g .replayed)
+        ∙ ap (λ (b : ℕ). andThen (replayRecord c (s .queues) b r) (λ (x : List Queue). replayRecords c x [])) (first-block (s .place) (encode r))
+        ∙ ap (λ (o : Outcome). andThen o (λ (x : List Queue). replayRecords c x []))
+        (ap (λ (m : Capacities). replayRecord m (s .queues) (headerBlock (s .place)) r) (sym (g .same-room)) ∙ e);
   }
     where
       snoc : encodings (ls ++ (listed s r ∷ [])) ≡ encodings ls ++ (encode r ∷ [])
@@ -95,7 +100,7 @@ module _ (log : List ℕ) (q n : ℕ) (c : Capacities) (qs₀ : List Queue) (arr
       long = length-put (s .log) (s .place) (recordBytes (s .place) (encode r)) (omega (arith, length-record (s .place) (encode r)))
 
   arranged : (s : State) (ls : List Listed) → Going log q n c qs₀ s ls → Arrangement (s .capacities) (s .queues)
-  arranged s ls g = subst (λ (m : Capacities). Arrangement m (s .queues)) (sym (g .same-room)) (records-arranged c qs₀ (s .queues) (recordsOf ls) (g .formed) arr (g .replayed))
+  arranged s ls g = subst (λ (m : Capacities). Arrangement m (s .queues)) (sym (g .same-room)) (records-arranged c qs₀ (s .queues) (blocksOf ls) (subst Formed (sym (blocks-records ls)) (g .formed)) arr (g .replayed))
 
   -- a call that is done
   on-done : (s x : State) (ls : List Listed) (go : List Listed → Machine) → Going log q n c qs₀ s ls → Taken s x go → Gone log q n c qs₀ x (go ls)

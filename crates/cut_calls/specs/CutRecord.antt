@@ -7,7 +7,7 @@ use Prim.Native.Nat.{ℕ}
 use Rattle.frame.specs.declared.Corruption.the-variants.{WrongChecksum as wrongChecksum, UnknownType as unknownType}
 use Rattle.record.specs.Record.{Record, encode}
 use Rattle.calls.specs.Reading.{ReadAnswer, gaveRecord, gaveCorruption, lostFrame}
-use Rattle.calls.specs.Machine.{Machine, Fed, machineCall}
+use Rattle.calls.specs.Machine.{Listed, Machine, Fed, machineCall}
 use Rattle.cut.specs.Cut.{covered, Left, complete, headed, nothing, torn}
 
 -- what reading gives for the record that was cut
@@ -18,7 +18,7 @@ cutAnswered nothing r = []
 cutAnswered (torn s) r = gaveCorruption (lostFrame unknownType) ∷ []
 
 -- the record, where all its frames count as stored
-unfoldable pub keptOf : Left → Record → List Record
+unfoldable pub keptOf : Left → Listed → List Listed
 keptOf complete r = r ∷ []
 keptOf headed r = []
 keptOf nothing r = []

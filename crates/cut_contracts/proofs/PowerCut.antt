@@ -19,7 +19,7 @@ use Rattle.calls.specs.Calls.{callOf}
 use Rattle.calls.specs.Reading.{readings, lostIn}
 use Rattle.calls.specs.Lost.{lostBytes}
 use Rattle.calls.specs.Replay.{Outcome, refused, left, replayedBy, replayOf, outcomeQueues, replayRecords, replayScratch}
-use Rattle.calls.specs.Machine.{Listed, Machine, Fed, machine, recordsOf, NoneLonger}
+use Rattle.calls.specs.Machine.{Listed, Machine, Fed, machine, recordsOf, blocksOf, NoneLonger}
 use Rattle.calls.proofs.Done.{call-refused, same-state}
 use Rattle.read_step.specs.declared.ReplayAnswer.{ReplayAnswer}
 use Rattle.read_step.specs.declared.ReplayAnswer.the-variants.{Replayed as replayed}
@@ -59,7 +59,7 @@ done-by s k a e z = go (refusalOf s k) refl
     go zero d = refl
     go (suc i) d = absurd (omega (arith, ap (λ (x : CallAnswer). x .refusal) (e ∙ ap (λ (x : Returned). x .answer) (call-refused s k i d))))
 
-kept-cases : (x : Left) (r : Record) → (keptOf x r ≡ []) ⊎ (keptOf x r ≡ r ∷ [])
+kept-cases : (x : Left) (r : Listed) → (keptOf x r ≡ []) ⊎ (keptOf x r ≡ r ∷ [])
 unfolding keptOf
 kept-cases complete r = inr refl
 kept-cases headed r = inl refl
@@ -78,32 +78,32 @@ module _ (h : List Fed) (l : Lent) (run : Run h l) (k : Call) (a : CallAnswer) (
   cut-same c = ap (λ (log : List ℕ). take c log ++ drop c (l .log)) (sym (wr .kept .log-left))
 
   module _ (c limit : ℕ) (low : l .place ≤ c) (high : c ≤ l′ .place) (unfit : Unfit c (w .frames)) (few : NoneLonger limit (machine h .records ++ (w ∷ []))) where
-    over-states : StateAfterCut (stateOf l) k (recordsOf (machine h .records)) (w .written) (leftBy c (w .frames)) (cutLent l l′ c) limit
+    over-states : StateAfterCut (stateOf l) k (machine h .records) w (leftBy c (w .frames)) (cutLent l l′ c) limit
     unfolding stateOf
     over-states =
-        subst (λ (log : List ℕ). StateAfterCut (stateOf l) k (recordsOf (machine h .records)) (w .written) (leftBy c (w .frames)) log limit) (cut-same c)
+        subst (λ (log : List ℕ). StateAfterCut (stateOf l) k (machine h .records) w (leftBy c (w .frames)) log limit) (cut-same c)
         (states-cut h (stateOf l) (run-means h l run) k w writes c limit low (omega (arith, wr .kept .place-left)) unfit few)
 
-    before : keptOf (leftBy c (w .frames)) (w .written) ≡ [] → replayOf (cutLent l l′ c) (capacities (l .memory)) limit ≡ left (meaning (l .memory))
+    before : keptOf (leftBy c (w .frames)) w ≡ [] → replayOf (cutLent l l′ c) (capacities (l .memory)) limit ≡ left (meaning (l .memory))
     unfolding stateOf
     before e = over-states .replay-before e
 
-    after : keptOf (leftBy c (w .frames)) (w .written) ≡ w .written ∷ [] → replayOf (cutLent l l′ c) (capacities (l′ .memory)) limit ≡ left (meaning (l′ .memory))
+    after : keptOf (leftBy c (w .frames)) w ≡ w ∷ [] → replayOf (cutLent l l′ c) (capacities (l′ .memory)) limit ≡ left (meaning (l′ .memory))
     unfolding stateOf
     after e = subst (λ (x : State). replayOf (cutLent l l′ c) (x .capacities) limit ≡ left (x .queues)) (sym means) (over-states .replay-after e)
 
     legal : logRefused (cutLent l l′ c) ≡ false
-    legal = go (kept-cases (leftBy c (w .frames)) (w .written))
+    legal = go (kept-cases (leftBy c (w .frames)) w)
       where
-        go : (keptOf (leftBy c (w .frames)) (w .written) ≡ []) ⊎ (keptOf (leftBy c (w .frames)) (w .written) ≡ w .written ∷ []) → logRefused (cutLent l l′ c) ≡ false
+        go : (keptOf (leftBy c (w .frames)) w ≡ []) ⊎ (keptOf (leftBy c (w .frames)) w ≡ w ∷ []) → logRefused (cutLent l l′ c) ≡ false
         go (inl e) = legal-by (cutLent l l′ c) (capacities (l .memory)) limit (meaning (l .memory)) (before e) (logRefused (cutLent l l′ c)) refl
         go (inr e) = legal-by (cutLent l l′ c) (capacities (l′ .memory)) limit (meaning (l′ .memory)) (after e) (logRefused (cutLent l l′ c)) refl
 
-    after-cut : AfterCut l l′ (recordsOf (machine h .records)) (w .written) (leftBy c (w .frames)) (cutLent l l′ c) limit
+    after-cut : AfterCut l l′ (machine h .records) w (leftBy c (w .frames)) (cutLent l l′ c) limit
     after-cut = record {
       reading = λ scratch gs n rs. reads-all cut scratch gs rs ∙ ap (readings cut) n ∙ over-states .reading;
       replay = λ scratch scratch′ m m′ ks ks′ b n long kept.
-          replays-as cut scratch scratch′ m m′ b (queues-kept cut m ks (λ _. long) scratch scratch′ m′ b ks′ kept) legal (replayRecords (capacities m) [] (recordsOf (machine h .records) ++ keptOf (leftBy c (w .frames)) (w .written)))
+          replays-as cut scratch scratch′ m m′ b (queues-kept cut m ks (λ _. long) scratch scratch′ m′ b ks′ kept) legal (replayRecords (capacities m) [] (blocksOf (machine h .records) ++ blocksOf (keptOf (leftBy c (w .frames)) w)))
           (ap (replayOf cut (capacities m)) n ∙ over-states .replay (capacities m));
       replay-before = λ e scratch scratch′ m m′ ks ks′ b n f long kept.
           gives-at cut scratch scratch′ m m′ ks ks′ b (capacities (l .memory)) limit (meaning (l .memory)) long kept n f (before e);
@@ -142,7 +142,7 @@ module _ (log scratch : List ℕ) (m : Memory) (ks : List ℕ) (l₀ : Lent) (o 
   inner = queues-kept log m ks (λ _. long-opened) scratch (l₀ .scratch) (l₀ .memory) (replayed (o .lost) (o .lost-bytes) (l₀ .place)) (l₀ .largest) (o .kept)
 
   -- the queues that replay gave, and the place
-  found : (qs : List Queue) × (replayOf log (capacities m) (length scratch) ≡ left qs) × (l₀ .place ≡ resume log (length scratch))
+  pub found : (qs : List Queue) × (replayOf log (capacities m) (length scratch) ≡ left qs) × (l₀ .place ≡ resume log (length scratch))
   found =
       told-left (replayOf log (capacities m) (length scratch)) (o .lost) (lostIn (readings log (length scratch))) (o .lost-bytes) (lostBytes log (length scratch)) (l₀ .place) (resume log (length scratch))
       (answers log scratch (l₀ .scratch) m (l₀ .memory) (replayed (o .lost) (o .lost-bytes) (l₀ .place)) inner (replayOf log (capacities m) (length scratch)) refl)
@@ -154,7 +154,7 @@ module _ (log scratch : List ℕ) (m : Memory) (ks : List ℕ) (l₀ : Lent) (o 
   unfolding outcomeQueues
   memory-is = leaves log scratch (l₀ .scratch) m (l₀ .memory) (replayed (o .lost) (o .lost-bytes) (l₀ .place)) inner legal-opened (left (found .0)) (found .1)
 
-  opened-means : stateOf l₀ ≡ reopened log (capacities m) (found .0) (length scratch)
+  pub opened-means : stateOf l₀ ≡ reopened log (capacities m) (found .0) (length scratch)
   unfolding stateOf replayScratch
   opened-means =
       same-state (stateOf l₀) (reopened log (capacities m) (found .0) (length scratch))

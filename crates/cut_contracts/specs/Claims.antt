@@ -13,7 +13,7 @@ use Rattle.calls.specs.State.{Call, CallAnswer}
 use Rattle.calls.specs.Reading.{gaveRecord, gaveEnd}
 use Rattle.calls.specs.Reading.{ReadAnswer as Given}
 use Rattle.calls.specs.Replay.{replayRecords}
-use Rattle.calls.specs.Machine.{Listed, Fed, machineCall, machine, wasRefused, recordsOf, NoneLonger}
+use Rattle.calls.specs.Machine.{Listed, Fed, machineCall, machine, wasRefused, recordsOf, blocksOf, NoneLonger}
 use Rattle.read_step.specs.declared.ReplayAnswer.{ReplayAnswer}
 use Rattle.read_step.specs.declared.ReplayAnswer.the-variants.{Replayed as replayed}
 use Rattle.contracts.specs.Contracts.{Lent, CallKept, ReplayKept}
@@ -60,18 +60,18 @@ ReplayGives log limit m₀ = (scratch scratch′ : List ℕ) (m m′ : Memory) (
 
 -- "reading gives all earlier records in order, the last one too if all its frames count as stored, at most one corruption answer, and no other record"; replay, whatever
 -- memory is lent with a further table that is long enough, gives what these records give, and in memory of the same sizes the queues before the call, or after it where all is stored
-pub record AfterCut (l l′ : Lent) (before : List Record) (r : Record) (x : Left) (cut : List ℕ) (limit : ℕ) : Type 0 where
-  pub reading : ReadsAs cut limit (map gaveRecord before ++ (cutAnswered x r ++ (gaveEnd ∷ [])))
+pub record AfterCut (l l′ : Lent) (before : List Listed) (r : Listed) (x : Left) (cut : List ℕ) (limit : ℕ) : Type 0 where
+  pub reading : ReadsAs cut limit (map gaveRecord (recordsOf before) ++ (cutAnswered x (r .written) ++ (gaveEnd ∷ [])))
   pub replay : (scratch scratch′ : List ℕ) (m m′ : Memory) (ks ks′ : List ℕ) (a : ReplayAnswer) → length scratch ≡ limit → length (m .entries) ≤ length ks
       → ReplayKept cut scratch m ks a scratch′ m′ ks′
-      → ReplaysAs (replayRecords (capacities m) [] (before ++ keptOf x r)) a m m′
+      → ReplaysAs (replayRecords (capacities m) [] (blocksOf before ++ blocksOf (keptOf x r))) a m m′
   pub replay-before : keptOf x r ≡ [] → ReplayGives cut limit (l .memory)
   pub replay-after : keptOf x r ≡ r ∷ [] → ReplayGives cut limit (l′ .memory)
 
 abbrev pub PowerCut : Type 0
 PowerCut = (h : List Fed) (l : Lent) → Run h l → (k : Call) (a : CallAnswer) (l′ : Lent) (w : Listed) → Wrote h l k a l′ w
     → (c limit : ℕ) → l .place ≤ c → c ≤ l′ .place → Unfit c (w .frames) → NoneLonger limit (machine h .records ++ (w ∷ []))
-    → AfterCut l l′ (recordsOf (machine h .records)) (w .written) (left c (w .frames)) (cutLent l l′ c) limit
+    → AfterCut l l′ (machine h .records) w (left c (w .frames)) (cutLent l l′ c) limit
 
 -- "A record written after reopening, where the log has bytes for it, is read back too": every list of calls after it; and replay then gives the queues that they left
 pub record AfterCalls (before : List Record) (r : Record) (x : Left) (rs : List Record) (l₂ : Lent) (again : ℕ) : Type 0 where

@@ -8,8 +8,8 @@ use native.Mathlib.Omega.{arith}
 use lib.Dec.{leb, ltb}
 use lib.ListN.{length}
 use borrow.Author.Tests.{ne-eqb}
-use Rattle.record.specs.Record.{Item}
-use Rattle.queues.specs.Queues.{Queue, queue, next, itemsAbove, truncateWhen, truncateQueue, evicted, payloadsOf, payloadBytes, Found, held, find, Position}
+use Rattle.recordlog.specs.Placed.{headerBlock}
+use Rattle.queues.specs.Queues.{Stored, storedIn, Queue, queue, next, itemsAbove, truncateWhen, truncateQueue, evicted, payloadsOf, payloadBytes, Found, held, find, Position}
 use Rattle.queues.specs.Queues.{truncateFound}
 use Rattle.queues.proofs.Walks.{found-stands}
 use Rattle.queues.proofs.Rising.{name-truncate}
@@ -30,23 +30,23 @@ use Rattle.largest_contracts.specs.Claims.{PayloadsBalance, LeavingCount
 
 -- ---- what leaves and what stays
 
-through-bytes-on : (b : Bool) (i : Item) (is ls ks : List Item) → payloadsOf ls + payloadsOf ks ≡ payloadsOf is
+through-bytes-on : (b : Bool) (i : Stored) (is ls ks : List Stored) → payloadsOf ls + payloadsOf ks ≡ payloadsOf is
     → payloadsOf (cond b ls (i ∷ ls)) + payloadsOf (cond b (i ∷ ks) ks) ≡ length (i .payload) + payloadsOf is
 unfolding payloadsOf
 through-bytes-on true i is ls ks h = omega arith
 through-bytes-on false i is ls ks h = omega arith
 
-through-bytes : (e : ℕ) (is : List Item) → payloadsOf (itemsThrough e is) + payloadsOf (itemsAbove e is) ≡ payloadsOf is
+through-bytes : (e : ℕ) (is : List Stored) → payloadsOf (itemsThrough e is) + payloadsOf (itemsAbove e is) ≡ payloadsOf is
 unfolding itemsThrough itemsAbove payloadsOf
 through-bytes e [] = refl
 through-bytes e (i ∷ is) = through-bytes-on (ltb e (i .position)) i is (itemsThrough e is) (itemsAbove e is) (through-bytes e is)
 
-through-count-on : (b : Bool) (i : Item) (is ls ks : List Item) → length ls + length ks ≡ length is
+through-count-on : (b : Bool) (i : Stored) (is ls ks : List Stored) → length ls + length ks ≡ length is
     → length (cond b ls (i ∷ ls)) + length (cond b (i ∷ ks) ks) ≡ suc (length is)
 through-count-on true i is ls ks h = omega arith
 through-count-on false i is ls ks h = omega arith
 
-through-count : (e : ℕ) (is : List Item) → length (itemsThrough e is) + length (itemsAbove e is) ≡ length is
+through-count : (e : ℕ) (is : List Stored) → length (itemsThrough e is) + length (itemsAbove e is) ≡ length is
 unfolding itemsThrough itemsAbove
 through-count e [] = refl
 through-count e (i ∷ is) = through-count-on (ltb e (i .position)) i is (itemsThrough e is) (itemsAbove e is) (through-count e is)
@@ -116,10 +116,10 @@ module _ (m : Machine) (s : State) (same : m .queues ≡ s .queues) where
       let f : find n (m .queues) ≡ held q = ap (find n) same ∙ w .is-held in
       omega (
         arith,
-        bytes-appends (m .queues) q (itemsAt o run ks) (found-stands n (m .queues) q f),
-        items-payloads o run ks (omega (arith, p .payloads .all)),
+        bytes-appends (m .queues) q (storedIn (headerBlock (m .place)) (itemsAt o run ks)) (found-stands n (m .queues) q f),
+        items-payloads (headerBlock (m .place)) o run ks (omega (arith, p .payloads .all)),
         p .payloads .all,
-        ap (λ (y : Found). payloadBytes (appendFound (itemsAt o run ks) (m .queues) y)) f,
+        ap (λ (y : Found). payloadBytes (appendFound (storedIn (headerBlock (m .place)) (itemsAt o run ks)) (m .queues) y)) f,
       )
 
   append-balance : (n : List ℕ) (a : Position) (run ks : List ℕ) → firstRefusal (appendRefusals s n a run ks) ≡ 0

@@ -5,7 +5,7 @@ use mathlib.Core.Bool.{true, false}
 use mathlib.Core.List.{List, [], _∷_}
 use Prim.Native.Nat.{ℕ}
 use Rattle.slices.specs.Order.{order, orderBy}
-use Rattle.queues.specs.Queues.{find, findOn, keep, keepOn, startWith, appendItem, next, nextFrom, payloadsOf, truncateFound, truncateQueue, truncateWhen, itemsAbove, appendItems, noPosition}
+use Rattle.queues.specs.Queues.{storedIn, find, findOn, keep, keepOn, startWith, appendItem, next, nextFrom, payloadsOf, truncateFound, truncateQueue, truncateWhen, itemsAbove, appendItems, noPosition}
 use Rattle.calls.specs.State.{Call, createCall, deleteCall, truncateCall, appendCall}
 use Rattle.calls.specs.Payloads.{itemsAt, firstPosition, isJustBefore, noPayloads, givesEmpty}
 use Rattle.calls.specs.Named.{nextOf, appendFound}
@@ -32,9 +32,9 @@ unfolding accepted acceptedBy givesEmpty noPayloads isJustBefore machine machine
 came-in = refl
 
 pub left : gone so-far ≡ 3
-unfolding gone goneBy evictedBytes recordsLeaving recordsLeavingWhen itemsThrough payloadsOf machine machineCall puts putsAppend appendFound appendItems itemsAt firstPosition givesEmpty noPayloads isJustBefore find findOn keep keepOn order orderBy nextOf next nextFrom appendItem startWith
+unfolding gone goneBy evictedBytes recordsLeaving recordsLeavingWhen itemsThrough payloadsOf machine machineCall puts putsAppend appendFound storedIn appendItems itemsAt firstPosition givesEmpty noPayloads isJustBefore find findOn keep keepOn order orderBy nextOf next nextFrom appendItem startWith
 left = refl
 
 pub deleted : gone (fed (deleteCall name) ∷ so-far) ≡ 5
-unfolding gone goneBy evictedBytes heldBytes recordsLeaving recordsLeavingWhen itemsThrough payloadsOf machine machineCall puts putsAppend appendFound appendItems itemsAt firstPosition givesEmpty noPayloads isJustBefore find findOn keep keepOn order orderBy nextOf next nextFrom appendItem startWith truncateFound truncateQueue truncateWhen itemsAbove
+unfolding gone goneBy evictedBytes heldBytes recordsLeaving recordsLeavingWhen itemsThrough payloadsOf machine machineCall puts putsAppend appendFound storedIn appendItems itemsAt firstPosition givesEmpty noPayloads isJustBefore find findOn keep keepOn order orderBy nextOf next nextFrom appendItem startWith truncateFound truncateQueue truncateWhen itemsAbove
 deleted = refl

@@ -10,10 +10,10 @@ use lib.Dec.{ltb}
 use lib.ListN.{length, take, drop, length-append, take-append-drop}
 use lib.Seq.{sets-eq, length-take-le}
 use borrow.Author.Tests.{ltb-true, ltb-false}
-use Rattle.record.specs.Record.{Item}
+use Rattle.record.specs.Record.{Item, item}
 use Rattle.slices.specs.Put.{put}
 use Rattle.slices.proofs.Put.{put-all}
-use Rattle.queues.specs.Queues.{Queue, next, nameBytes, recordCount, payloadsOf, payloadBytes, rising, queueArranged, comesFirst, inOrder}
+use Rattle.queues.specs.Queues.{Stored, Queue, next, nameBytes, recordCount, payloadsOf, payloadBytes, rising, queueArranged, comesFirst, inOrder}
 use Rattle.queues.specs.Layout.{meaning}
 use Rattle.queues.proofs.ArrangedFacts.{Arrangement, arranged-arrangement}
 use Rattle.queues.proofs.SumsHeld.{queues-held, names-held, records-held, payloads-held}
@@ -106,12 +106,12 @@ record-short i h =
       numbered-short recordWord (i .position) h,
     )
 
-records-short : (n : ℕ) (is : List Item) → rising n is ≡ true → length (recordLines is) ≤ 30 * length is + 2 * payloadsOf is
+records-short : (n : ℕ) (is : List Stored) → rising n is ≡ true → length (recordLines is) ≤ 30 * length is + 2 * payloadsOf is
 unfolding recordLines payloadsOf
 records-short n [] h = omega arith
 records-short n (i ∷ is) h =
     omega
-    (arith, length-append (recordLine i) (recordLines is), record-short i (omega (arith, risen n i is h .high)), records-short (suc (i .position)) is (risen n i is h .rest))
+    (arith, length-append (recordLine (item (i .position) (i .payload))) (recordLines is), record-short (item (i .position) (i .payload)) (omega (arith, risen n i is h .high)), records-short (suc (i .position)) is (risen n i is h .rest))
 
 queue-short : (q : Queue) → queueArranged q ≡ true → length (q .records) < 2 ^ 64
     → length (queueLine q) + length (recordLines (q .records)) ≤ 87 + 2 * length (q .name) + (30 * length (q .records) + 2 * payloadsOf (q .records))

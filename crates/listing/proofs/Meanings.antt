@@ -8,9 +8,9 @@ use native.Mathlib.Omega.{arith}
 use lib.Dec.{eqb}
 use lib.ListN.{length, take, drop, getD, length-append}
 use borrow.Author.Tests.{eqb-true}
-use Rattle.record.specs.Record.{Item, item}
+use Rattle.record.specs.Record.{item}
 use Rattle.queues.specs.declared.RecordEntry.{RecordEntry}
-use Rattle.queues.specs.Queues.{Queue, next}
+use Rattle.queues.specs.Queues.{Stored, stored, Queue, next}
 use Rattle.queues.specs.Layout.{Memory, memory, rowAt, queuesHeld, recordsHeld, rowsFrom, rows, arrivals, itemsOf, queuesFrom, meaning, nextsTrue, arranged, blank}
 use Rattle.queues.specs.Changes.{wordAt}
 use Rattle.queues.specs.Passes.{passedTo, namesTo}
@@ -26,17 +26,19 @@ use Rattle.listing.proofs.Writes.{length-written, wrote, on, reads}
 
 -- ---- the entries of one queue
 
-lines-append : (is js : List Item) → recordLines (is ++ js) ≡ recordLines is ++ recordLines js
+lines-append : (is js : List Stored) → recordLines (is ++ js) ≡ recordLines is ++ recordLines js
 unfolding recordLines
 lines-append [] js = refl
-lines-append (i ∷ is) js = ap (λ (l : List ℕ). recordLine i ++ l) (lines-append is js) ∙ sym (append-assoc (recordLine i) (recordLines is) (recordLines js))
+lines-append (i ∷ is) js =
+    let l : List ℕ = recordLine (item (i .position) (i .payload)) in
+    ap (λ (r : List ℕ). l ++ r) (lines-append is js) ∙ sym (append-assoc l (recordLines is) (recordLines js))
 
 module _ (k : ℕ) (es : List RecordEntry) (ps : List ℕ) where
   one-line : (e : RecordEntry) (p : ℕ) → recordLines (one k es ps e p) ≡ entryLine k e (take (e .length) (drop p ps))
   unfolding recordLines entryLine itemsOf arrivals
   one-line e p = on-test (eqb (e .queue) k)
     where
-      on-test : (b : Bool) → recordLines (cond b (item (e .position) (take (e .length) (drop p ps)) ∷ []) []) ≡ cond b (recordLine (item (e .position) (take (e .length) (drop p ps)))) []
+      on-test : (b : Bool) → recordLines (cond b (stored (e .position) (take (e .length) (drop p ps)) (e .block) ∷ []) []) ≡ cond b (recordLine (item (e .position) (take (e .length) (drop p ps)))) []
       on-test true = append-nil (recordLine (item (e .position) (take (e .length) (drop p ps))))
       on-test false = refl
 
@@ -44,7 +46,7 @@ module _ (k : ℕ) (es : List RecordEntry) (ps : List ℕ) where
   unfolding counted itemsOf arrivals
   one-count e p n = on-test (eqb (e .queue) k)
     where
-      on-test : (b : Bool) → n + length (cond b (item (e .position) (take (e .length) (drop p ps)) ∷ []) []) ≡ cond b (n + 1) n
+      on-test : (b : Bool) → n + length (cond b (stored (e .position) (take (e .length) (drop p ps)) (e .block) ∷ []) []) ≡ cond b (n + 1) n
       on-test true = refl
       on-test false = omega arith
 

@@ -8,9 +8,8 @@ use Prim.Native.Nat.{ℕ, _+_, _*_, _-_, _^_, _≤_, _<_, _/_, _%_}
 use lib.Dec.{ltb}
 use lib.ListN.{length, take, getD}
 use Rattle.slices.specs.Bytes.{Bytes}
-use Rattle.record.specs.Record.{item}
 use Rattle.slices.specs.Put.{put}
-use Rattle.queues.specs.Queues.{Queue, queue, nameBytes, recordCount, payloadBytes, inOrder}
+use Rattle.queues.specs.Queues.{stored, Queue, queue, nameBytes, recordCount, payloadBytes, inOrder}
 use Rattle.queues.specs.Layout.{Memory, meaning, arranged}
 use Rattle.listing.specs.Digits.{hexRun, decimal}
 use Rattle.listing.specs.Writing.{written}
@@ -20,7 +19,7 @@ use Rattle.listing.specs.Listing.{shiftLines, wholeBytes, halfEven, fill
 
 -- after create "a" and an append of "one" and an empty payload
 abbrev pub exampleQueue : Queue
-exampleQueue = queue (97 ∷ []) 0 (item 0 (111 ∷ 110 ∷ 101 ∷ []) ∷ item 1 [] ∷ [])
+exampleQueue = queue (97 ∷ []) 0 (stored 0 (111 ∷ 110 ∷ 101 ∷ []) 0 ∷ stored 1 [] 0 ∷ [])
 
 -- "queues 1"
 abbrev pub exampleLine1 : List ℕ

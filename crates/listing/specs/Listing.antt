@@ -7,8 +7,8 @@ use mathlib.Core.List.{List, [], _∷_, _++_}
 use Prim.Native.Nat.{ℕ, _+_, _*_, _/_, _%_}
 use lib.Dec.{ltb}
 use lib.ListN.{length}
-use Rattle.record.specs.Record.{Item}
-use Rattle.queues.specs.Queues.{Queue, next}
+use Rattle.record.specs.Record.{Item, item}
+use Rattle.queues.specs.Queues.{Stored, Queue, next}
 use Rattle.listing.specs.Digits.{hex, decimal}
 
 -- ---- the words, each with the spaces around it
@@ -88,9 +88,10 @@ queueLine q = headLine (q .name) (q .start) (next q) (length (q .records))
 unfoldable pub recordLine : Item → List ℕ
 recordLine i = numbered recordWord (i .position) ++ (space ++ (hex (i .payload) ++ lineFeed))
 
-unfoldable pub recordLines : List Item → List ℕ
+-- a held record's block is not listed
+unfoldable pub recordLines : List Stored → List ℕ
 recordLines [] = []
-recordLines (i ∷ is) = recordLine i ++ recordLines is
+recordLines (i ∷ is) = recordLine (item (i .position) (i .payload)) ++ recordLines is
 
 -- "queues go in byte order of names, records by position": as the list and its queues have them
 unfoldable pub queueLines : List Queue → List ℕ

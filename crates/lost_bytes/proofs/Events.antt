@@ -27,9 +27,9 @@ use Rattle.record.specs.Record.{decode}
 use Rattle.calls.specs.Lost.{undecoded, lostOf, onSum, sumReads, sumFrom}
 use Rattle.lost_bytes.specs.Given.{handed, givenOf}
 
--- a frame as it is read, and its bytes
+-- a frame as it is read, its bytes, and where a sound one's header stands
 pub data Sized : Type 0 where
-  good : FrameType → List ℕ → ℕ → Sized
+  good : FrameType → List ℕ → ℕ → ℕ → Sized
   corrupted : Corruption → ℕ → Sized
 
 -- ---- the sum over the reads that frames make
@@ -68,7 +68,7 @@ joinedSum w limit k (within ys) t go = weighedSum w (leb (length ys) limit) (end
 unfoldable pub sumOf : (Answer → Tally → ℕ) → ℕ → List Sized → Begun → Tally → ℕ
 sumOf w limit [] b t = w endOfLog (tally (t .lost + t .taken) 0 0)
 sumOf w limit (corrupted c z ∷ es) b t = w (corruption c) (tally (t .lost + t .taken + z) 0 0) + sumOf w limit es idle noTally
-sumOf w limit (good k xs z ∷ es) b t = joinedSum w limit k (gather b k xs) (takeUp (begins k) b z 0 t) (sumOf w limit es)
+sumOf w limit (good k xs z q ∷ es) b t = joinedSum w limit k (gather b k xs) (takeUp (begins k) b z 0 t) (sumOf w limit es)
 
 -- ---- what a reader sees
 
@@ -76,15 +76,15 @@ pub data SeesSized (log : List ℕ) : Reader → List Sized → Type 0 where
   none : {r : Reader} → readFrame log r .answer ≡ notAvailable → SeesSized log r []
   bad : {r : Reader} {es : List Sized} (c : Corruption) (z : ℕ) → readFrame log r .answer ≡ corrupt c → frameSize log r ≡ z
       → SeesSized log (readFrame log r .reader) es → SeesSized log r (corrupted c z ∷ es)
-  fine : {r : Reader} {es : List Sized} (t : FrameType) (s n : ℕ) (xs : List ℕ) (z : ℕ) → readFrame log r .answer ≡ sound t s n → take n (drop s log) ≡ xs
-      → frameSize log r ≡ z → SeesSized log (readFrame log r .reader) es → SeesSized log r (good t xs z ∷ es)
+  fine : {r : Reader} {es : List Sized} (t : FrameType) (s n : ℕ) (xs : List ℕ) (z q : ℕ) → readFrame log r .answer ≡ sound t s n → take n (drop s log) ≡ xs
+      → frameSize log r ≡ z → s - 7 ≡ q → SeesSized log (readFrame log r .reader) es → SeesSized log r (good t xs z q ∷ es)
 
 -- no more frames than lie ahead
 pub sized-ahead : (log : List ℕ) {r : Reader} {es : List Sized} → Arranged log r → SeesSized log r es → length es ≤ ahead log r
 sized-ahead log a (none e) = omega arith
 sized-ahead log {r} a (bad c z e f s) =
     omega (arith, sized-ahead log (onward log r a .arranged) s, ahead-falls log r a (not-corrupt (readFrame log r .answer) c e))
-sized-ahead log {r} a (fine t p n xs z e d f s) =
+sized-ahead log {r} a (fine t p n xs z q e d f g s) =
     omega (arith, sized-ahead log (onward log r a .arranged) s, ahead-falls log r a (not-sound (readFrame log r .answer) t p n e))
 
 -- every reader sees some list of frames
@@ -97,7 +97,7 @@ see log r on = go (readFrame log r .answer) refl
     go (corrupt c) e = let x = on (not-corrupt (readFrame log r .answer) c e) in (corrupted c (frameSize log r) ∷ x .0, bad c (frameSize log r) e refl (x .1))
     go (sound t s n) e =
         let x = on (not-sound (readFrame log r .answer) t s n e) in
-        (good t (take n (drop s log)) (frameSize log r) ∷ x .0, fine t s n (take n (drop s log)) (frameSize log r) e refl refl (x .1))
+        (good t (take n (drop s log)) (frameSize log r) (s - 7) ∷ x .0, fine t s n (take n (drop s log)) (frameSize log r) (s - 7) e refl refl refl (x .1))
 
 sees-within : (k : ℕ) (log : List ℕ) (r : Reader) → Arranged log r → ahead log r ≤ k → (es : List Sized) × SeesSized log r es
 sees-within zero log r a h = see log r (λ n. absurd (omega (arith, ahead-falls log r a n)))
@@ -119,15 +119,15 @@ size-sound log r t s n xs a e d =
 
 -- a frame seen, where each corruption is about n bytes
 abbrev pub sizing : ℕ → Event → Sized
-sizing n (Plain.good t xs) = good t xs (7 + length xs)
+sizing n (Plain.good t xs q) = good t xs (7 + length xs) q
 sizing n (Plain.corrupted c) = corrupted c n
 
 pub to-sized : (log : List ℕ) (n : ℕ) {Z : Reader → Type 0} {r : Reader} {es : List Event} → Arranged log r → SeesBy log (λ r c. frameSize log r ≡ n) Z r es
     → SeesSized log r (map (sizing n) es)
 to-sized log n a (Plain.none e z) = none e
 to-sized log n {r = r} a (Plain.bad c e q s) = bad c n e q (to-sized log n (onward log r a .arranged) s)
-to-sized log n {r = r} a (Plain.fine t p i xs e d s) =
-    fine t p i xs (7 + length xs) e d (size-sound log r t p i xs a e d) (to-sized log n (onward log r a .arranged) s)
+to-sized log n {r = r} a (Plain.fine t p i xs q e d f s) =
+    fine t p i xs (7 + length xs) q e d (size-sound log r t p i xs a e d) f (to-sized log n (onward log r a .arranged) s)
 
 -- ---- the sum over the reads is that over the frames seen
 
@@ -174,9 +174,9 @@ module _ (w : Answer → Tally → ℕ) (blind : Blind w) where
       ap (λ (x : FrameAnswer). onward-sum w (suc n) log limit (onFrame log limit first b x (readFrame log r .reader) (next m log limit first))
       (onTally log limit b t x (frameSize log r) (tallies m log limit (readFrame log r .reader)))) e
       ∙ ap₂ (λ (i j : ℕ). w (corruption c) (tally (t .lost + t .taken + i) 0 0) + j) f g
-  fused log limit a (fine k p i xs z e d f s) n zero first b t lm ln = absurd (omega arith)
-  fused log limit a (fine k p i xs z e d f s) zero (suc m) first b t lm ln = absurd (omega arith)
-  fused log limit {r} a (fine {es = es} k p i xs z e d f s) (suc n) (suc m) first b t lm ln =
+  fused log limit a (fine k p i xs z q e d f g s) n zero first b t lm ln = absurd (omega arith)
+  fused log limit a (fine k p i xs z q e d f g s) zero (suc m) first b t lm ln = absurd (omega arith)
+  fused log limit {r} a (fine {es = es} k p i xs z q e d f g s) (suc n) (suc m) first b t lm ln =
       ap (λ (x : FrameAnswer). onward-sum w (suc n) log limit (onFrame log limit first b x (readFrame log r .reader) (next m log limit first))
       (onTally log limit b t x (frameSize log r) (tallies m log limit (readFrame log r .reader)))) e
       ∙ ap₂ (λ (ys : List ℕ) (j : ℕ). onward-sum w (suc n) log limit (join limit k first (gather b k ys) (readFrame log r .reader) (next m log limit first))

@@ -43,8 +43,8 @@ seen-sees log a (bad c z e f s) zero h = absurd (omega arith)
 seen-sees log {r} a (bad c z e f s) (suc k) h =
     ap (λ (x : FrameAnswer). onSeen x (frameSize log r) (readFrame log r .reader) (seenTimes k log)) e
     ∙ ap₂ _+_ f (seen-sees log (onward log r a .arranged) s k (omega arith))
-seen-sees log a (fine t p n xs z e d f s) zero h = absurd (omega arith)
-seen-sees log {r} a (fine t p n xs z e d f s) (suc k) h =
+seen-sees log a (fine t p n xs z q e d f g s) zero h = absurd (omega arith)
+seen-sees log {r} a (fine t p n xs z q e d f g s) (suc k) h =
     ap (λ (x : FrameAnswer). onSeen x (frameSize log r) (readFrame log r .reader) (seenTimes k log)) e
     ∙ ap₂ _+_ f (seen-sees log (onward log r a .arranged) s k (omega arith))
 
@@ -84,7 +84,7 @@ once : (limit : ℕ) (es : List Sized) (b : Begun) (t : Tally) → Taken (assemb
 unfolding assemble sumOf lostOf givenOf sizes sizeAt answerOf refusedIn
 once limit [] b t h = omega arith
 once limit (corrupted c z ∷ es) b t h = omega (arith, once limit es idle noTally h)
-once limit (good k xs z ∷ es) b t h =
+once limit (good k xs z q ∷ es) b t h =
     omega (
       arith,
       joined-once (sizes es) limit (assemble limit (map unsized es)) (sumOf lostOf limit es) (sumOf givenOf limit es) (once limit es) k (gather b k xs) (takeUp (begins k) b z 0 t) h,

@@ -30,7 +30,7 @@ use Rattle.lost_bytes.proofs.Events.{Sized, good, corrupted, lost-blind
 -- ---- the sizes of the frames seen
 
 unfoldable pub sizeAt : Sized → ℕ
-sizeAt (good t xs z) = z
+sizeAt (good t xs z q) = z
 sizeAt (corrupted c z) = z
 
 unfoldable pub sizes : List Sized → ℕ
@@ -41,7 +41,7 @@ pub sizes-within : (log : List ℕ) {r : Reader} {es : List Sized} → Arranged 
 unfolding sizes sizeAt
 sizes-within log {r} a (none e) = omega (arith, passed-most r (a .within), a .inside)
 sizes-within log {r} a (bad c z e f s) = omega (arith, frame-passes log r a .passes, sizes-within log (onward log r a .arranged) s)
-sizes-within log {r} a (fine t p n xs z e d f s) = omega (arith, frame-passes log r a .passes, sizes-within log (onward log r a .arranged) s)
+sizes-within log {r} a (fine t p n xs z q e d f g s) = omega (arith, frame-passes log r a .passes, sizes-within log (onward log r a .arranged) s)
 
 -- ---- no more is lost than the frames have
 
@@ -66,7 +66,7 @@ loss-most : (limit : ℕ) (es : List Sized) (b : Begun) (t : Tally) → sumOf lo
 unfolding sumOf lostOf sizes sizeAt
 loss-most limit [] b t = omega arith
 loss-most limit (corrupted c z ∷ es) b t = omega (arith, loss-most limit es idle noTally)
-loss-most limit (good k xs z ∷ es) b t =
+loss-most limit (good k xs z q ∷ es) b t =
     omega (arith, joined-most (sizes es) limit (sumOf lostOf limit es) (loss-most limit es) k (gather b k xs) (takeUp (begins k) b z 0 t), take-total (begins k) b z 0 t)
 
 -- ---- of a log
