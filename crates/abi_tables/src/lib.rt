@@ -1,4 +1,4 @@
-// The call, the question, the copy and replay with both tables lent as bytes of any length. docs/LAYOUT.md says how the tables stand in them.
+// The call, the question, the copy and replay with all tables lent as bytes of any length. docs/LAYOUT.md says how the tables stand in them.
 mod copying;
 mod questions;
 mod replaying;
