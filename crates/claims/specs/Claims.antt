@@ -1,6 +1,6 @@
 -- Claim.
 -- What document 01 says of every lent memory that is arranged, of every reader, of asking again, of the log's tail and of what a call counts; and what demands 2 and 3 say of `lost` and of
--- the place where a writer resumes. Each claim is proved in proofs/ under its name with hyphens.
+-- the place where a writer resumes. Each claim is proved in proofs/ under its name in snake case.
 -- Assumes nothing.
 use Rattle.std.specs.Prelude.{◌≡◌, ◌⊎◌, Bool, false, List, ◌∷◌, ◌++◌, ℕ, ◌+◌, ◌*◌, ◌≤◌, ◌<◌, length, drop}
 use Rattle.frame.specs.declared.Reader.{Reader}

@@ -1,5 +1,5 @@
 -- Claim.
--- What is promised of a copy over the lent memory. Each claim is proved in proofs/ under its name with hyphens.
+-- What is promised of a copy over the lent memory. Each claim is proved in proofs/ under its name in snake case.
 -- Assumes nothing.
 use Rattle.std.specs.Prelude.{◌≡◌, false, List, [], ◌∷◌, ◌++◌, map, ℕ, ◌*◌, length, take}
 use Rattle.frame.specs.Block.{blocks}

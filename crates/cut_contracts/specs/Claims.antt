@@ -1,5 +1,5 @@
 -- Claim.
--- Power lost during the record that a call writes, over the lent memory. Each claim is proved in proofs/ under its name with hyphens.
+-- Power lost during the record that a call writes, over the lent memory. Each claim is proved in proofs/ under its name in snake case.
 -- Assumes nothing.
 use Rattle.std.specs.Prelude.{◌≡◌, List, [], ◌∷◌, ◌++◌, map, ℕ, ◌≤◌, length, take, drop}
 use Rattle.frame.specs.Block.{blocks}

@@ -1,5 +1,5 @@
 -- Claim.
--- What is promised of a fresh card. Each claim is proved in proofs/ under its name with hyphens.
+-- What is promised of a fresh card. Each claim is proved in proofs/ under its name in snake case.
 -- Assumes nothing.
 use Rattle.std.specs.Prelude.{◌≡◌, false, List, ℕ, ◌*◌, ◌≤◌, length, take}
 use Rattle.slices.specs.Bytes.{Bytes}

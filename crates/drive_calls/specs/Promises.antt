@@ -1,5 +1,5 @@
 -- Claim.
--- What is promised of the text for a file of commands; each is proved in proofs/ under its name with hyphens.
+-- What is promised of the text for a file of commands; each is proved in proofs/ under its name in snake case.
 -- Assumes nothing.
 use Rattle.std.specs.Prelude.{◌≡◌, List, ℕ, ◌≤◌, length}
 use Rattle.slices.specs.Bytes.{Bytes}

@@ -1,5 +1,5 @@
 -- Claim.
--- More on the further table from open on, and on the balance of payload bytes. Each claim is proved in proofs/ under its name with hyphens.
+-- More on the further table from open on, and on the balance of payload bytes. Each claim is proved in proofs/ under its name in snake case.
 -- Assumes nothing.
 use Rattle.std.specs.Prelude.{◌≡◌, true, List, [], ℕ, ◌+◌, ◌≤◌, length}
 use Rattle.queues.specs.Queues.{Queue, payload_bytes, evicted}

@@ -1,5 +1,5 @@
 -- Claim.
--- 02, Ticket 8, over the lent memory: the largest payload held from open on, and the balance of payload bytes. Each is proved in proofs/ under its name with hyphens.
+-- 02, Ticket 8, over the lent memory: the largest payload held from open on, and the balance of payload bytes. Each is proved in proofs/ under its name in snake case.
 -- Assumes nothing.
 use Rattle.std.specs.Prelude.{◌≡◌, List, ℕ, ◌+◌}
 use Rattle.queues.specs.Queues.{Queue, held, find, payload_bytes}

@@ -1,5 +1,5 @@
 -- Claim.
--- What is promised of the bytes lost (02, Ticket 7). Each claim is proved in proofs/ under its name with hyphens.
+-- What is promised of the bytes lost (02, Ticket 7). Each claim is proved in proofs/ under its name in snake case.
 -- Assumes nothing.
 use Rattle.std.specs.Prelude.{◌≡◌, Bool, true, false, List, [], ◌∷◌, ◌++◌, ℕ, ◌+◌, ◌*◌, ◌≤◌, ◌<◌, length}
 use Rattle.frame.specs.Block.{blocks}
