@@ -2,6 +2,8 @@
 // definition of `crc32`.
 //
 // A constant array is copied to the stack wherever it is read, so the half table is lent once a call and is never read in a loop.
+#![tactic(auto)]
+
 mod table;
 
 ghost use Rattle.std.specs.Prelude.{◌≡◌, ◌++◌, ◌+◌, ◌%◌, ◌≤◌, ◌<◌, length};

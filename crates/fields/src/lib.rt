@@ -1,4 +1,6 @@
 // Little-endian numbers in a part of a slice. Each width is two halves of the width below it, so that one law over the width serves all.
+#![tactic(auto)]
+
 ghost use Rattle.std.specs.Prelude.{◌≡◌, ◌+◌, ◌≤◌, length, take, drop};
 ghost use Rattle.slices.specs.Put.{put};
 ghost use Rattle.fields.specs.Le.{le, le_bytes};

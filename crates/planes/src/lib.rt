@@ -1,4 +1,6 @@
 // Readings stored by byte planes, and back: for the queue's owner, before an append and after a read. The log is not touched and does not mark such payloads.
+#![tactic(auto)]
+
 ghost use Rattle.std.specs.Prelude.{◌≡◌, ◌+◌, ◌*◌, ◌≤◌, ◌<◌, length};
 ghost use Rattle.slices.specs.Put.{put};
 ghost use Rattle.planes.specs.Planes.{every, crossed};

@@ -1,4 +1,6 @@
 // Runs of bytes in lent slices: stored, cleared, moved, compared.
+#![tactic(auto)]
+
 ghost use Rattle.std.specs.Prelude.{◌≡◌, ◌+◌, ◌≤◌, length, take, drop};
 ghost use Rattle.slices.specs.Bytes.{zeros};
 ghost use Rattle.slices.specs.Put.{put};

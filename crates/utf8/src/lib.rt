@@ -1,4 +1,6 @@
 // UTF-8 (RFC 3629): the test of a name, as the Rust's `str::from_utf8` tests it.
+#![tactic(auto)]
+
 ghost use Rattle.std.specs.Prelude.{◌≡◌};
 ghost use Rattle.utf8.specs.Utf8.{utf8, grammar, begun, after};
 ghost use Rattle.utf8.specs.Wanted.{wanted, follow};

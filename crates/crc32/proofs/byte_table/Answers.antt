@@ -3,12 +3,8 @@
 use mathlib.Core.Path.{refl}
 use Rattle.crc32.specs.Crc.{odd, step, run, bits_of, bits}
 use Rattle.crc32.specs.Wide.{wide_entry, wide_from, byte_table}
-use Rattle.crc32.proofs.byte_table.Statement.{statement}
-use Rattle.crc32.proofs.byte_table.Tie as tie
+use Rattle.crc32.proofs.byte_table.Goals as goal
 
-returns : tie.Need-returns
+pub returns : goal.returns
 unfolding byte_table wide_from wide_entry run step bits bits_of odd
 returns c = refl
-
-pub byte-table-spec : {M : Type 1} → statement M
-byte-table-spec = tie.close (tie.spec returns)

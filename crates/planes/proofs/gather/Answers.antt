@@ -1,0 +1,40 @@
+use Prim.Native.Nat.{◌-◌}
+use mathlib.Core.Path.{sym}
+use native.Mathlib.Omega.{arith}
+use lib.ListN.{length}
+use Rattle.slices.proofs.Stored.{start, turn, end}
+use Rattle.planes.proofs.Runs.{length-every, every_at, within}
+use Rattle.planes.proofs.gather.Goals as goal
+
+pub loop-i-init : goal.loop-i-init
+loop-i-init c = start _ _ _
+
+pub overflow_mul-dst : goal.overflow_mul-dst
+overflow_mul-dst c =
+    let a = c.args in
+    omega (arith, within c.loop-i.i a.n a.step a.from (length a.src.now) (omega arith) (omega arith) (omega arith))
+
+pub overflow_add-dst : goal.overflow_add-dst
+overflow_add-dst c =
+    let a = c.args in
+    omega (arith, within c.loop-i.i a.n a.step a.from (length a.src.now) (omega arith) (omega arith) (omega arith))
+
+pub bounds-src-i : goal.bounds-src-i
+bounds-src-i c =
+    let a = c.args in
+    within c.loop-i.i a.n a.step a.from (length a.src.now) (omega arith) (omega arith) (omega arith)
+
+pub loop-i-preserved : goal.loop-i-preserved
+loop-i-preserved c =
+    let a = c.args in
+    let l = length-every a.step a.n a.from a.src.now in
+    turn _ _ _ _ _ _ (omega arith) (omega arith) (sym (every_at _ _ _ _ _ (omega arith))) c.loop-i.invariant
+
+pub shape_of-dst : goal.shape_of-dst
+shape_of-dst c = c.loop-i.invariant.long
+
+pub returns : goal.returns
+returns c =
+    let a = c.args in
+    let l = length-every a.step a.n a.from a.src.now in
+    end _ _ _ _ _ (omega arith) c.loop-i.invariant

@@ -1,0 +1,17 @@
+#!/usr/bin/env bash
+# One crate brought over, as far as scripts go: the tactics' line, the converted proofs, the layout; then a check, whose errors are left to the hand.
+# usage: tools/port/crate.sh NAME, at the top
+set -u
+c=$1
+for f in crates/$c/src/lib.rt crates/$c/src/main.rt; do
+  [ -f "$f" ] && ! grep -q 'tactic(auto)' "$f" && python3 - "$f" <<'P'
+import sys
+f=sys.argv[1]; ls=open(f).read().split("\n"); i=0
+while i<len(ls) and ls[i].startswith("//"): i+=1
+ls.insert(i,"#![tactic(auto)]"); open(f,"w").write("\n".join(ls))
+P
+done
+(cd "crates/$c" && rt fmt >/dev/null)
+[ -n "$(find crates/$c/proofs -name Proof.antt 2>/dev/null | head -1)" ] && python3 tools/port/convert.py "$c"
+cd "crates/$c" && rt check >/tmp/check-$c.log 2>&1
+grep -E "^fn .*(not proved|no proof|could not)|^logic=|^rattle:|error" "/tmp/check-$c.log" | cut -c1-300 | tail -${2:-60}
