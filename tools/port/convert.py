@@ -15,7 +15,7 @@ GIVEN = re.compile(r"^(?:shared_)?(?:slice|vec|array)_known")
 
 
 def same(name):
-    return re.sub(r"^(overflow[-_])", "", name).replace("_", "-")
+    return re.sub(r"^(overflow|nonzero)[-_]", "", re.sub(r"_lem$", "", name)).replace("_", "-")
 
 
 def groups(text):
@@ -60,34 +60,54 @@ class Turn:
         self.step = {p[0]: p[2] for p in table["places"]}
         self.index = {p[0]: i for i, p in enumerate(table["places"])}
         self.typed = table["typed"]
+        self.arms = table["arms"]
 
     def needs(self):
         return {same(a): b for a, b in self.t["needs"]}
 
     def resolve(self, place, parts):
-        """Follows parts from a place: (place, []) or (None, new parts)."""
-        parts = list(parts)
+        """Follows parts from a place: (place, []) or (None, new parts). Where the older form counted other steps, the step is found by its name."""
+        parts, start = list(parts), place
         while parts and parts[0] == "before":
-            up = self.parent.get(place)
-            if up is None:
-                return None, ["before?"] + parts
-            place = up
+            place = self.parent.get(place) or place
             parts.pop(0)
         if not parts:
             return place, []
-        own = self.step.get(place) or ["", ""]
-        if own[0] and same(own[0]) == same(parts[0]):
-            old, new = own
-            if GIVEN.match(old) and parts[1:2] == ["given"]:
-                typed = self.typed[self.index[place]]
-                var = [v for v, s in typed if s == old]
-                if var:
-                    return None, ["type_inv", var[0]] + parts[2:]
-            return None, [new] + parts[1:]
-        return None, parts
+        if parts[0] in ("args", "requires", "ranges", "lifetimes", "well_formed"):
+            return None, parts
+
+        def fits(p):
+            own = self.step.get(p) or ["", ""]
+            return own[0] and same(own[0]) == same(parts[0])
+
+        if not fits(place):
+            chain, p = [], self.goal
+            while p:
+                chain.append(p)
+                p = self.parent.get(p)
+            depth = chain.index(place) if place in chain else 0
+            near = sorted((abs(i - depth), i) for i, q in enumerate(chain) if fits(q))
+            if not near:
+                return None, parts
+            place = chain[near[0][1]]
+        old, new = self.step[place]
+        arm = self.arms[self.index[place]]
+        if arm:
+            best = None
+            for field, step, prefix in arm[2]:
+                if same(step) == same(old) and parts[1 : 1 + len(prefix)] == prefix and (best is None or len(prefix) > len(best[1])):
+                    best = (field, prefix)
+            if best:
+                return None, [arm[0], best[0]] + parts[1 + len(best[1]) :]
+        if GIVEN.match(old) and parts[1:2] == ["given"]:
+            var = [v for v, s in self.typed[self.index[place]] if s == old]
+            if var:
+                return None, ["type_inv", var[0]] + parts[2:]
+        return None, [new] + parts[1:]
 
     def body(self, text, place, name="c"):
         env = {name: place}
+        self.goal = place
 
         def fix(m):
             head, rest = m.group(1), m.group(2)[1:].split(".")
@@ -125,6 +145,7 @@ class Turn:
             _ = gone
         out.append(PATHS.sub(fix, text[pos:]))
         new = "".join(out)
+        new = re.sub(r"\(?\bnot-(true|false) _ (c\.if-not-[^\s.]+\.\1)(\))?", lambda m: ("(" if m.group(0)[0] == "(" and not m.group(3) else "") + m.group(2) + (")" if m.group(3) and m.group(0)[0] != "(" else ""), new)
         for q in re.findall("\x00([^\x00]*)\x00", new):
             self.said.append(f"{self.fn}: a place {q} is passed on")
         return new.replace("\x00", "")
@@ -245,9 +266,10 @@ def turn_file(crate, folder, path, table, said, root):
                     del sub[p]
 
             def put(mm):
-                return sub.get(mm.group(0), mm.group(0))
+                return sub.get(mm.group(0), mm.group(0)) if mm.group(0) != "data" else sub.get("«data»", "data")
 
             def puts(s):
+                s = s.replace("«data»", "data")
                 return re.sub(r"(?<![\w'₀-₉.-])[A-Za-z_κμ][\w'₀-₉-]*", put, s)
 
             new = f"{kind}-{names[k][1]}"
@@ -276,9 +298,10 @@ def turn_file(crate, folder, path, table, said, root):
             if params not in (["c"], ["_"]):
                 said.append(f"{fn}: {new} has parameters {params}")
             body = t.body(mm.group(4), place)
+            body = re.sub(r"(?<![\w'₀-₉-])data(?![\w'₀-₉-])", "data", body)
             if words_used("κs", body):
                 said.append(f"{fn}: {new} uses κs")
-            if body.strip() in ("search rules", "omega arith") or re.fullmatch(r"\s*(?:search|omega) \(?(?:rules|arith)\)?\s*", body):
+            if not mid and re.fullmatch(r"\s*(?:search|omega) \(?(?:rules|arith)\)?\s*", body):
                 continue
             ans.append("\n".join(comment + [f"pub {new} : goal.{new}", mid + f"{new} c =" + mm.group(3) + body]))
             continue
@@ -342,8 +365,9 @@ def main():
         r = subprocess.run(["rt", "check", "--generated", os.path.join(out, "n"), "--old-names"], cwd=where, stdout=subprocess.PIPE, stderr=subprocess.STDOUT, text=True)
         f = os.path.join(out, "n", "names.json")
         if not os.path.exists(f):
-            print(crate, "no names:", r.stdout[-3000:])
-            continue
+            print(crate, "no names: a crate below is not proved")
+            print(r.stdout[-2000:], file=sys.stderr)
+            sys.exit(1)
         names = json.load(open(f))
         said = []
         done = 0

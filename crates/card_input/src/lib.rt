@@ -3,7 +3,7 @@ ghost use Rattle.std.specs.Prelude.{◌≤◌, length};
 ghost use Rattle.io.specs.Counts.{IsPrefixLen};
 
 // Whether the file may have more, has ended, or could not be read.
-#[derive(Drop)]
+#[derive(Clone, Copy)]
 pub enum State {
     Going,
     Ended,
@@ -11,7 +11,7 @@ pub enum State {
 }
 
 // How many bytes of the file stand at the start of the buffer.
-#[derive(Drop)]
+#[derive(Clone, Copy)]
 pub struct Reading {
     pub bytes: usize,
     pub state: State,

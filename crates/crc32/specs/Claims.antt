@@ -1,5 +1,5 @@
 -- Claim.
--- What is promised of CRC-32 beside the functions' contracts. Each claim is proved in proofs/ under its name in snake case.
+-- What is promised of CRC-32 beside the functions' contracts. Each claim is proved in proofs/ under its name with hyphens.
 -- Assumes nothing.
 use Rattle.std.specs.Prelude.{◌≡◌, List, ◌++◌, ℕ, ◌<◌, length, get_or}
 use Rattle.slices.specs.Bytes.{Bytes}

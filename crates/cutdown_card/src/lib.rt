@@ -5,7 +5,7 @@ mod parts;
 pub use card::cut_down;
 
 // What became of a card: this many bytes of the buffer are the fresh one; replay or the copy refused it; or the buffer is too short for its blocks.
-#[derive(Drop)]
+#[derive(Clone, Copy)]
 pub enum Cutdown {
     Written(usize),
     Refused(u64),

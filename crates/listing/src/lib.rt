@@ -11,14 +11,14 @@ pub use text::refused;
 pub use write::{put_byte, put_bytes};
 
 // What became of a text: it stands in the buffer, in this many bytes, or the buffer is too short for it.
-#[derive(Drop)]
+#[derive(Clone, Copy)]
 pub enum Listed {
     Bytes(usize),
     NoRoom,
 }
 
 // The place in the buffer, and how many bytes of the names or payloads are passed.
-#[derive(Drop)]
+#[derive(Clone, Copy)]
 pub struct Cursor {
     pub at: usize,
     pub passed: usize,

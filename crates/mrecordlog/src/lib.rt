@@ -9,7 +9,7 @@ mod writes;
 
 // What a call that writes tells: the refusal's number or 0, whether there is a last position and which, the records evicted, and the bytes written, those of
 // the frames and those of the padding.
-#[derive(Drop)]
+#[derive(Clone, Copy)]
 pub struct CallTold {
     pub refusal: u64,
     pub has_last: u64,
@@ -20,7 +20,7 @@ pub struct CallTold {
 }
 
 // What a read tells: the refusal's number or 0, the kind of its answer, and a record's position and places in the scratch.
-#[derive(Drop)]
+#[derive(Clone, Copy)]
 pub struct ReadTold {
     pub refusal: u64,
     pub kind: u64,
@@ -32,7 +32,7 @@ pub struct ReadTold {
 }
 
 // The reader as numbers.
-#[derive(Drop)]
+#[derive(Clone, Copy)]
 pub struct ReaderNumbers {
     pub block: usize,
     pub cursor: usize,

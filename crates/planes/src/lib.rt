@@ -7,7 +7,7 @@ ghost use Rattle.planes.specs.Planes.{every, crossed};
 ghost use Rattle.planes.specs.Step.{planes_fit, step_answer, to_planes_left, from_planes_left, planes_number};
 
 // What a step answers.
-#[derive(Drop)]
+#[derive(Clone, Copy)]
 pub enum PlanesAnswer {
     Done,
     Refused(u64),

@@ -12,7 +12,7 @@ use frame::{FrameType, Reader};
 use report_frames::{Seen, see};
 
 // Beside the table: unreadable headers, over-long frames, bytes of data in sound frames.
-#[derive(Drop)]
+#[derive(Clone, Copy)]
 pub struct Others {
     pub unreadable: u64,
     pub over_long: u64,

@@ -8,7 +8,7 @@ ghost use Rattle.slices.specs.Same.{same_bytes};
 ghost use Rattle.slices.specs.Order.{order};
 
 // How one run of bytes stands to another in byte order.
-#[derive(Drop)]
+#[derive(Clone, Copy)]
 pub enum Order {
     Below,
     Same,

@@ -109,7 +109,7 @@ fn call(
 }
 
 // CRC-32 of each memory that is lent, and the write position.
-#[derive(Drop)]
+#[derive(Clone, Copy)]
 pub struct Sums {
     log: u64,
     place: usize,

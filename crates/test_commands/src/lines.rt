@@ -15,7 +15,7 @@ use crate::shows::{print, show};
 use crate::words::{is_command, number, place_of};
 
 // How many bytes of each memory are lent, where it has as many.
-#[derive(Drop)]
+#[derive(Clone, Copy)]
 struct Lent {
     log: u64,
     scratch: u64,

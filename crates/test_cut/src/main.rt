@@ -4,7 +4,7 @@
 use test_log_text::{clear, count_up, number, put, read_into, resume, text};
 
 // The lengths of the record before, of the one that is cut, and of the one written after reopening.
-#[derive(Drop)]
+#[derive(Clone, Copy)]
 struct Case {
     before: usize,
     len: usize,

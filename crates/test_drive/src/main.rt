@@ -4,7 +4,7 @@
 use listing::{Listed, put_bytes};
 
 // How often a part stands there, and its length; whether there is one more on standard input.
-#[derive(Drop)]
+#[derive(Clone, Copy)]
 struct Head {
     there: bool,
     times: usize,
@@ -12,7 +12,7 @@ struct Head {
 }
 
 // How many bytes an input has; whether there was one.
-#[derive(Drop)]
+#[derive(Clone, Copy)]
 struct Input {
     there: bool,
     len: usize,

@@ -5,7 +5,7 @@ use frame::{Corruption, Reader};
 use recordlog::{RecordAnswer, RecordWrite};
 
 // How many records and corruptions there were, and where the reader was left.
-#[derive(Drop)]
+#[derive(Clone, Copy)]
 pub struct AllRead {
     pub count: usize,
     pub reader: Reader,

@@ -7,7 +7,7 @@ ghost use Rattle.utf8.specs.Wanted.{wanted, follow};
 
 // What is still to come of a character: `left` bytes, the next of them from `low` to `high`, each
 // further one from 0x80 to 0xbf. With none left it is whole, and `low` and `high` mean nothing.
-#[derive(Drop)]
+#[derive(Clone, Copy)]
 struct Wanted {
     low: u8,
     high: u8,
@@ -15,7 +15,7 @@ struct Wanted {
 }
 
 // What is wanted after one byte more, unless no UTF-8 goes on so.
-#[derive(Drop)]
+#[derive(Clone, Copy)]
 enum Next {
     Wants(Wanted),
     Refused,

@@ -7,7 +7,7 @@ use Rattle.crc32.specs.Crc.{run, bits}
 use Rattle.crc32.proofs.by_bytes.Given as goal
 
 abbrev pub invariant-loop-i : goal.invariant-loop-i
-invariant-loop-i l = (l.i ≤ length «data») × (run l.c (bits (drop l.i «data»)) ≡ run l.crc (bits «data»))
+invariant-loop-i l = (l.i ≤ length l.data) × (run l.c (bits (drop l.i l.data)) ≡ run l.crc (bits l.data))
 
 abbrev pub decreases-loop-i : goal.decreases-loop-i
-decreases-loop-i l = length «data» - l.i
+decreases-loop-i l = length l.data - l.i

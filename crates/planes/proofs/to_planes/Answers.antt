@@ -5,17 +5,19 @@ use Prim.Native.Nat.{◌/◌}
 use native.Mathlib.Nat.{mul_comm}
 use native.Mathlib.Omega.{arith}
 use lib.ListN.{length}
-use borrow.Author.Tests.{not-true, not-false}
 use Rattle.planes.proofs.Fits.{fits, no_step_lem, step}
 use Rattle.planes.proofs.Planes.{readings}
 use Rattle.planes.proofs.to_planes.Goals as goal
 
 pub returns-then-not-planes_fit : goal.returns-then-not-planes_fit
-returns-then-not-planes_fit c = no_step_lem _ _ _ (sym c.planes_fit.ensures ∙ not-true _ c.if-not-planes_fit.true)
+returns-then-not-planes_fit c = no_step_lem _ _ _ (sym c.planes_fit.ensures ∙ c.if-not-planes_fit.true)
+
+pub nonzero_div-payload : goal.nonzero_div-payload
+nonzero_div-payload c = (fits _ _ _ (sym c.planes_fit.ensures ∙ c.if-not-planes_fit.false)).some
 
 pub cross-requires : goal.cross-requires
 cross-requires c =
-    let f = fits _ _ _ (sym c.planes_fit.ensures ∙ not-false _ c.if-not-planes_fit.false) in
+    let f = fits _ _ _ (sym c.planes_fit.ensures ∙ c.if-not-planes_fit.false) in
     let w = c.args.width in
     let xs = c.args.payload.now in
     let e = readings w xs f.whole in
@@ -25,5 +27,5 @@ cross-requires c =
 pub returns : goal.returns
 returns c =
     step _ _ _ _
-    (sym c.planes_fit.ensures ∙ not-false _ c.if-not-planes_fit.false)
+    (sym c.planes_fit.ensures ∙ c.if-not-planes_fit.false)
     c.cross.ensures

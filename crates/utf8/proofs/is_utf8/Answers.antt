@@ -48,11 +48,11 @@ loop-i-init c = start _ _ _
 
 pub returns-in_default : goal.returns-in_default
 returns-in_default c =
-    stop c.loop-i.invariant c.step.result (omega arith) c.step.ensures (not_wanted _ c.in_default.keys2)
+    stop c.loop-i.invariant c.step.result (omega arith) c.step.ensures (not_wanted _ c.in_default.in_default-own.keys2)
 
 pub loop-i-preserved : goal.loop-i-preserved
 loop-i-preserved c =
-    turn c.loop-i.invariant c.step.result (omega arith) c.step.ensures c.next-1.given.1
+    turn c.loop-i.invariant c.step.result (omega arith) c.step.ensures c.in-Wants.is
 
 pub returns : goal.returns
 returns c = end c.loop-i.invariant c.loop-i-test.false
