@@ -244,6 +244,8 @@ def turn_file(crate, folder, path, table, said, root):
                 said.append(f"{fn}: no loop {loop}")
                 continue
             eq = whole[whole.index("\n") + 1 :] if "\n" in whole else ""
+            while eq.startswith(" "):
+                eq = eq[eq.index("\n") + 1 :]
             mid = ""
             while eq.startswith("unfolding"):
                 mid += eq[: eq.index("\n") + 1]
@@ -282,6 +284,8 @@ def turn_file(crate, folder, path, table, said, root):
                 said.append(f"{fn}: no goal {m.group(1)}: {name}")
                 continue
             eqs = whole[whole.index("\n") + 1 :]
+            while eqs.startswith(" "):
+                eqs = eqs[eqs.index("\n") + 1 :]
             if PLAIN.match(eqs):
                 continue
             place = at[new]
@@ -294,11 +298,16 @@ def turn_file(crate, folder, path, table, said, root):
                 mid += eqs[: eqs.index("\n") + 1]
                 eqs = eqs[eqs.index("\n") + 1 :]
             mm = re.match(r"(\S+)((?: [^\s=]+)*) =(\s)(.*)$", eqs, re.S)
+            if mm is None:
+                said.append(f"{fn}: {new} has no plain equation: {eqs[:80]!r}")
+                continue
             params = [p for p in mm.group(2).split() if p not in ("κs",)]
             if params not in (["c"], ["_"]):
                 said.append(f"{fn}: {new} has parameters {params}")
             body = t.body(mm.group(4), place)
             body = re.sub(r"(?<![\w'₀-₉-])data(?![\w'₀-₉-])", "data", body)
+            if re.search(r"OneOf \(\d+ ∷ \d+", text):
+                body = re.sub(r"c\.\S+-own\.keys\d+", lambda k: f"(opened {k.group(0)})", body)
             if words_used("κs", body):
                 said.append(f"{fn}: {new} uses κs")
             if not mid and re.fullmatch(r"\s*(?:search|omega) \(?(?:rules|arith)\)?\s*", body):
@@ -346,7 +355,7 @@ def turn_file(crate, folder, path, table, said, root):
     if ans:
         body_all = "\n\n".join(in_ans + ans)
         ours = [n for n in taken if words_used(n, body_all)]
-        lines = (head if not inv else []) + imports(uses + ["use borrow.Author.Rules.{rules}"], body_all)
+        lines = (head if not inv else []) + imports(uses + ["use borrow.Author.Rules.{rules}", "use borrow.Enum.Refused.{opened}"], body_all)
         if ours:
             lines.append(f"use {mod}.Invariants.{{{', '.join(ours)}}}")
         lines.append(f"use {mod}.Goals as goal")
