@@ -132,10 +132,10 @@ module _ (n c : ℕ) (before : List (List ℕ)) (xs tail : List ℕ) (behind : p
       (written_frames 0 (before ++ (xs ∷ [])) ∙ ap bytes_of frames-before ∙ bytes_append (frames_all 0 before) (frames_of (place_all 0 before) xs)) place-before
       ∙ append_assoc (bytes_of (frames_all 0 before)) (bytes_of (frames_of (place_all 0 before) xs)) (zeros (n * 32768 - place_after (place_all 0 before) xs))
 
-  pub cut_log : cut_log n before xs c ++ tail
+  pub cut_log_lem : cut_log n before xs c ++ tail
       ≡ bytes_of (frames_all 0 before) ++ (cut_at (c - place_all 0 before) (bytes_of (frames_of (place_all 0 before) xs)) ++ (zeros (n * 32768 - place_after (place_all 0 before) xs) ++ tail))
   unfolding cut_log
-  cut_log =
+  cut_log_lem =
       ap (λ (s : List ℕ). s ++ tail)
       (ap (cut_at c) laid-parts
       ∙ cut_append c a (b ++ zeros k)

@@ -28,7 +28,7 @@ use Rattle.cut.specs.Cut.{Left, complete, headed, nothing, torn, left_when, left
 use Rattle.cut.specs.Claims.{cut_log, given, Cutting}
 use Rattle.cut.proofs.Lists.{length_cut}
 use Rattle.recordlog.proofs.Append.{place-append}
-use Rattle.cut.proofs.Shape.{remains, Broken, Unbroken, Split, unbroken, broken, split_frames, cut_log}
+use Rattle.cut.proofs.Shape.{remains, Broken, Unbroken, Split, unbroken, broken, split_frames, cut_log_lem}
 use Rattle.cut.proofs.Torn.{part, cut_data, sum_bytes, headed_bytes, nothing_bytes, torn_bytes, part_length, part_type, part_some}
 use Rattle.cut.proofs.Dropped.{puts_whole, puts_broken}
 
@@ -100,7 +100,7 @@ module _ (n limit c : ℕ) (before : List (List ℕ)) (xs tail : List ℕ) (h : 
         laid-append 0 (frames_all 0 before) (frames_of (place_all 0 before) xs) (laid_all 0 before)
         (subst (λ (i : ℕ). Laid i (frames_of (place_all 0 before) xs)) (sym (end_all 0 before)) (owned (place_all 0 before) xs).stands);
     is =
-        cut_log n c before xs tail h.behind
+        cut_log_lem n c before xs tail h.behind
         ∙ ap (λ (s : List ℕ). bytes_of (frames_all 0 before) ++ (s ++ rest)) u.bytes
         ∙ sym (append_assoc (bytes_of (frames_all 0 before)) (bytes_of (frames_of (place_all 0 before) xs)) rest)
         ∙ ap (λ (s : List ℕ). s ++ rest) (sym (bytes_append (frames_all 0 before) (frames_of (place_all 0 before) xs)));
@@ -165,7 +165,7 @@ module _ (n limit c : ℕ) (before : List (List ℕ)) (xs tail : List ℕ) (h : 
     log-it : cut_log n before xs c ++ tail ≡ bytes_of before-it ++ (zeros (padding e) ++ (remains c b.at ++ (zeros k ++ tail)))
     unfolding before-it k
     log-it =
-        cut_log n c before xs tail h.behind
+        cut_log_lem n c before xs tail h.behind
         ∙ ap (λ (s : List ℕ). bytes_of (frames_all 0 before) ++ (s ++ (zeros m ++ tail))) b.bytes
         ∙ ap (λ (s : List ℕ). bytes_of (frames_all 0 before) ++ s) (append_assoc (bytes_of b.pre) (zeros b.at.padding ++ (remains c b.at ++ zeros j)) (zeros m ++ tail))
         ∙ sym (append_assoc (bytes_of (frames_all 0 before)) (bytes_of b.pre) ((zeros b.at.padding ++ (remains c b.at ++ zeros j)) ++ (zeros m ++ tail)))

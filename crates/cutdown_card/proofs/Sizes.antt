@@ -233,10 +233,10 @@ module _ (card out : List ℕ) where
       fresh_in qs =
           copied-whole (take n out) (blocks card) qs (length-take-le n out l ∙ e) ∙ sym (copied-whole (blank_card card) (blocks card) qs (blank_long card))
 
-      left_by : (c : Cut) → cut_down card ≡ c → into_by (take n out) c ++ drop n out ≡ written_by card out c
+      left_by_lem : (c : Cut) → cut_down card ≡ c → into_by (take n out) c ++ drop n out ≡ written_by card out c
       unfolding into_by written_by
-      left_by (cut_refused k) d = take-append-drop n out
-      left_by (cut_to qs) d =
+      left_by_lem (cut_refused k) d = take-append-drop n out
+      left_by_lem (cut_to qs) d =
           ap₂ (λ (x : List ℕ) (k : ℕ). x ++ drop k out) (fresh_in qs) (e ∙ sym (fresh_long card qs readout_scratch (was_done card qs d).taken))
           ∙ sym (put_first out (fresh_card card qs))
 
@@ -249,6 +249,6 @@ module _ (card out : List ℕ) where
                 w.answer ∙ ap₂ answered_by (length-take-le n out l ∙ e) same
                 ∙ sym (ap (λ (b : Bool). cond b NoRoom (answered_by (blocks card * 32768) (cut_down card))) fits);
             buffer_left =
-                ap (λ (x : List ℕ). x ++ drop n out) (w.target_left ∙ ap (into_by (take n out)) same) ∙ left_by (cut_down card) refl
+                ap (λ (x : List ℕ). x ++ drop n out) (w.target_left ∙ ap (into_by (take n out)) same) ∙ left_by_lem (cut_down card) refl
                 ∙ sym (ap (λ (b : Bool). cond b out (written_by card out (cut_down card))) fits);
           }

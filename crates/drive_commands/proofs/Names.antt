@@ -37,8 +37,8 @@ trim_other (x ∷ xs) b e = ap (trim_on x) (trim_other xs b e) ∙ on_some x (xs
 -- ---- the first n bytes of the operands
 
 module _ (xs : List ℕ) where
-  last_of : (n : ℕ) → 0 < n → n ≤ length xs → take n xs ≡ take (n - 1) xs ++ (get_or xs (n - 1) 0 ∷ [])
-  last_of n h l =
+  last_of_lem : (n : ℕ) → 0 < n → n ≤ length xs → take n xs ≡ take (n - 1) xs ++ (get_or xs (n - 1) 0 ∷ [])
+  last_of_lem n h l =
       let e : suc (n - 1) ≡ n = omega (arith, h) in
       ap (λ (k : ℕ). take k xs) (sym e) ∙ take-suc xs (n - 1) 0 (omega (arith, h, l))
 
@@ -48,7 +48,7 @@ module _ (xs : List ℕ) where
   cut_one n l e =
       let h : 0 < n = ltb-true 0 n (and_left (ltb 0 n) (eqb (get_or xs (n - 1) 0) 0) e) in
       let z : get_or xs (n - 1) 0 ≡ 0 = eqb-true (get_or xs (n - 1) 0) 0 (and_right (ltb 0 n) (eqb (get_or xs (n - 1) 0) 0) e) in
-      (h, sym (ap trimmed (last_of n h l ∙ ap (λ (b : ℕ). take (n - 1) xs ++ (b ∷ [])) z) ∙ trim_zero (take (n - 1) xs)))
+      (h, sym (ap trimmed (last_of_lem n h l ∙ ap (λ (b : ℕ). take (n - 1) xs ++ (b ∷ [])) z) ∙ trim_zero (take (n - 1) xs)))
 
   -- where no zero ends them, they are the name
   pub cut_all : (n : ℕ) → n ≤ length xs → ends_in_zero xs n ≡ false → trimmed (take n xs) ≡ take n xs
@@ -59,5 +59,5 @@ module _ (xs : List ℕ) where
       by true h =
           let p : 0 < n = ltb-true 0 n h in
           let f : eqb (get_or xs (n - 1) 0) 0 ≡ false = sym (ap (λ (t : Bool). t && eqb (get_or xs (n - 1) 0) 0) h) ∙ e in
-          ap trimmed (last_of n p l) ∙ trim_other (take (n - 1) xs) (get_or xs (n - 1) 0) f ∙ sym (last_of n p l)
+          ap trimmed (last_of_lem n p l) ∙ trim_other (take (n - 1) xs) (get_or xs (n - 1) 0) f ∙ sym (last_of_lem n p l)
       by false h = let z : n ≡ 0 = omega (arith, ltb-false 0 n h) in ap (λ (k : ℕ). trimmed (take k xs)) z ∙ sym (ap (λ (k : ℕ). take k xs) z)

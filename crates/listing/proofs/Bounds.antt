@@ -16,7 +16,7 @@ use Rattle.slices.proofs.Put.{put_all}
 use Rattle.queues.specs.Queues.{Queue, next, name_bytes, record_count, payloads_of, payload_bytes, rising, queue_arranged, comes_first, in_order}
 use Rattle.queues.specs.Layout.{meaning}
 use Rattle.queues.proofs.ArrangedFacts.{Arrangement, arranged_arrangement}
-use Rattle.queues.proofs.SumsHeld.{queues_held, names_held, records_held, payloads_held}
+use Rattle.queues.proofs.SumsHeld.{queues_held_lem, names_held_lem, records_held_lem, payloads_held_lem}
 use Rattle.queues.proofs.Both.{and_left, and_right}
 use Rattle.queues.proofs.Rising.{risen, Fine, arranged_fine, fine_next}
 use Rattle.listing.specs.Digits.{digit, hex_run, hex, decimal}
@@ -170,5 +170,5 @@ listing_short qs lost resumed n e few held names payloads small fits =
 pub memory_short : MemoryShort
 memory_short m lost resumed n e few names payloads small fits =
     let a : Arrangement m = arranged_arrangement m e in
-    listing_short (meaning m) lost resumed n a.ordered (omega (arith, queues_held m a, a.few)) (omega (arith, records_held m a, a.records_fit))
-    (omega (arith, names_held m a, a.names_fit)) (omega (arith, payloads_held m a, a.payloads_fit)) small fits
+    listing_short (meaning m) lost resumed n a.ordered (omega (arith, queues_held_lem m a, a.few)) (omega (arith, records_held_lem m a, a.records_fit))
+    (omega (arith, names_held_lem m a, a.names_fit)) (omega (arith, payloads_held_lem m a, a.payloads_fit)) small fits

@@ -23,8 +23,8 @@ module _ (s : List ℕ) (p : ℕ) (xs ys : List ℕ) where
   both-pieces : Wrote s p (xs ++ ys) (behind (length (written s p xs)) (behind (length s) p (length xs)) (length ys)) (written (written s p xs) (behind (length s) p (length xs)) ys)
   both-pieces = on (wrote {xs = xs} refl refl) (wrote {xs = ys} refl refl)
 
-  pub place_on : behind (length (written s p xs)) (behind (length s) p (length xs)) (length ys) ≡ behind (length s) p (length (xs ++ ys))
-  place_on = both-pieces.place
+  pub place_on_lem : behind (length (written s p xs)) (behind (length s) p (length xs)) (length ys) ≡ behind (length s) p (length (xs ++ ys))
+  place_on_lem = both-pieces.place
 
   pub buffer_on : written (written s p xs) (behind (length s) p (length xs)) ys ≡ written s p (xs ++ ys)
   buffer_on = both-pieces.buffer

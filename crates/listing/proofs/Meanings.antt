@@ -16,7 +16,7 @@ use Rattle.queues.specs.Changes.{word_at}
 use Rattle.queues.specs.Passes.{passed_to, names_to}
 use Rattle.queues.proofs.Both.{and_left, and_right}
 use Rattle.queues.proofs.ArrangedFacts.{Arrangement, arranged_arrangement}
-use Rattle.queues.proofs.SumsHeld.{queues_held}
+use Rattle.queues.proofs.SumsHeld.{queues_held_lem}
 use Rattle.queues.proofs.Passes.{items, one, items_more, word_is, behind-row, from, here, from_next}
 use Rattle.listing.specs.Writing.{written, listed}
 use Rattle.listing.specs.Internal.{behind, Wrote}
@@ -115,7 +115,7 @@ module _ (m : Memory) (a : arranged m ≡ true) where
       ≡ listing (meaning m) lost resumed bytes
   unfolding listing
   text-means lost resumed bytes =
-      ap₂ (λ (n : ℕ) (l : List ℕ). number_line queues_word n ++ (l ++ end_lines lost resumed bytes)) (sym (queues_held m facts)) texts-mean
+      ap₂ (λ (n : ℕ) (l : List ℕ). number_line queues_word n ++ (l ++ end_lines lost resumed bytes)) (sym (queues_held_lem m facts)) texts-mean
 
 -- ---- three pieces, written from a place of the buffer on
 

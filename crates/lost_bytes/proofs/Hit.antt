@@ -44,7 +44,7 @@ use Rattle.calls.proofs.OneHit.{owns_from, hit_length}
 use Rattle.lost_bytes.specs.Costs.{unstruck_bytes, others_of, others_in, hit_cost}
 use Rattle.lost_bytes.specs.Claims.{Decodes, RecordsLoseNothing, StatesLoseNothing, StatesHitCosts}
 use Rattle.lost_bytes.proofs.Events.{Sized, corrupted, lost_blind, sizing, to_sized, sum_of, sum_sees}
-use Rattle.lost_bytes.proofs.Records.{sz, sized_append, frame_sum, records, broken, skip, kept_bytes, others_all, spared_records}
+use Rattle.lost_bytes.proofs.Records.{sz, sized_append, frame_sum, records, broken, skip, kept_bytes_lem, others_all, spared_records}
 
 sized_frames : (n : ℕ) (fs : List Frame) (es : List Event) → map (sizing n) (map event fs ++ es) ≡ map sz fs ++ map (sizing n) es
 sized_frames n [] es = refl
@@ -120,7 +120,7 @@ owner_bytes : (lost : Bool) (f : Frame) (p : ℕ) (pre post : List Frame) → La
 unfolding unstruck_bytes frame_sum
 owner_bytes lost f p [] post l =
     ap (λ (b : Bool). cond b 0 (7 + length f.content) + unstruck_bytes lost f post) (struck_self lost f)
-    ∙ omega (arith, kept_bytes lost f post)
+    ∙ omega (arith, kept_bytes_lem lost f post)
 owner_bytes lost f p (g ∷ pre) post l =
     let b : struck lost f g ≡ false = struck-before lost f g (before l) in
     let on : unstruck_bytes lost f (pre ++ (f ∷ post)) ≡ frame_sum pre + frame_sum (keep lost f post) = owner_bytes lost f (after p g) pre post l.1 in

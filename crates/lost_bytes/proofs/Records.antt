@@ -173,10 +173,10 @@ records limit es p (xs ∷ rs) h d =
 
 module _ (lost : Bool) (h : Frame) where
   -- the frames kept have the bytes of those that are not struck
-  pub kept_bytes : (fs : List Frame) → frame_sum (keep lost h fs) ≡ unstruck_bytes lost h fs
+  pub kept_bytes_lem : (fs : List Frame) → frame_sum (keep lost h fs) ≡ unstruck_bytes lost h fs
   unfolding frame_sum keep unstruck_bytes
-  kept_bytes [] = refl
-  kept_bytes (f ∷ fs) = go (struck lost h f) (kept_bytes fs)
+  kept_bytes_lem [] = refl
+  kept_bytes_lem (f ∷ fs) = go (struck lost h f) (kept_bytes_lem fs)
     where
       go : (b : Bool) → frame_sum (keep lost h fs) ≡ unstruck_bytes lost h fs
           → frame_sum (cond b (keep lost h fs) (f ∷ keep lost h fs)) ≡ cond b 0 (7 + length f.content) + unstruck_bytes lost h fs
@@ -196,7 +196,7 @@ module _ (lost : Bool) (h : Frame) where
   unfolding others_of any_struck unstruck_bytes
   others-first f fs z =
       let n : 0 + unstruck_bytes lost h fs ≡ unstruck_bytes lost h fs = omega arith in
-      ap (λ (b : Bool). cond (b || any_struck lost h fs) (cond b 0 (7 + length f.content) + unstruck_bytes lost h fs) 0) z ∙ n ∙ sym (kept_bytes fs)
+      ap (λ (b : Bool). cond (b || any_struck lost h fs) (cond b 0 (7 + length f.content) + unstruck_bytes lost h fs) 0) z ∙ n ∙ sym (kept_bytes_lem fs)
 
   -- the other frames of the owners among records that lie from p on
   unfoldable pub others_all : ℕ → List (List ℕ) → ℕ

@@ -72,18 +72,18 @@ module _ (log scratch scratch' : List ℕ) (m m' : Memory) (a : ReplayAnswer) (l
   abbrev bytes-in : ℕ
   bytes-in = lost_bytes log (length scratch)
 
-  abbrev place_in : ℕ
-  place_in = resume log (length scratch)
+  abbrev place_in_lem : ℕ
+  place_in_lem = resume log (length scratch)
 
   pub leaves : Leaves m m' (outcome_queues given)
   leaves = subst (λ (b : Bool). QueuesLeft b m m' (outcome_queues given)) legal w.memory_left
 
-  pub answers : a ≡ replay_answer (replayed_by given lost-in bytes-in place_in)
+  pub answers : a ≡ replay_answer (replayed_by given lost-in bytes-in place_in_lem)
   unfolding replay_call
   answers = w.answer
 
-  place_inside : place_in ≤ length log
-  place_inside = let h : place_in ≤ blocks log * 32768 = resumes_in_log log (length scratch) (log_taken log legal).some in omega (arith, h)
+  place_inside : place_in_lem ≤ length log
+  place_inside = let h : place_in_lem ≤ blocks log * 32768 = resumes_in_log log (length scratch) (log_taken log legal).some in omega (arith, h)
 
   pub may_list : (arranged m' ≡ true) × LogFits (numbers_of a).resumed (length log)
   may_list = (
@@ -91,7 +91,7 @@ module _ (log scratch scratch' : List ℕ) (m m' : Memory) (a : ReplayAnswer) (l
     record {
       a_block = omega (arith, (log_taken log legal).some);
       few_blocks = (log_taken log legal).most;
-      inside = subst (λ (x : ReplayAnswer). (numbers_of x).resumed ≤ length log) (sym answers) (told_inside given lost-in bytes-in place_in (length log) place_inside);
+      inside = subst (λ (x : ReplayAnswer). (numbers_of x).resumed ≤ length log) (sym answers) (told_inside given lost-in bytes-in place_in_lem (length log) place_inside);
     },
   )
 

@@ -67,10 +67,10 @@ module _ (log : List ℕ) where
       ∙ ap (λ (ss : List Seen). seen log r ∷ ss)
       (same (ahead log r) (ahead log (read_frame log r).reader) (read_frame log r).reader (left_arranged r a) (omega (arith, fewer r a e)) (omega arith))
 
-  pub most_frames : (k : ℕ) (r : Reader) → length (frames_from k log r) ≤ k
+  pub most_frames_lem : (k : ℕ) (r : Reader) → length (frames_from k log r) ≤ k
   unfolding frames_from
-  most_frames zero r = omega arith
-  most_frames (suc k) r = step (is_end (seen log r)) (most_frames k (read_frame log r).reader)
+  most_frames_lem zero r = omega arith
+  most_frames_lem (suc k) r = step (is_end (seen log r)) (most_frames_lem k (read_frame log r).reader)
     where
       step : (b : Bool) → length (frames_from k log (read_frame log r).reader) ≤ k
           → length (cond b [] (seen log r ∷ frames_from k log (read_frame log r).reader)) ≤ suc k

@@ -15,7 +15,7 @@ use Rattle.report_frames.specs.Seen.{seen, is_end, frames_from, frames_ahead, fr
 use Rattle.report_frames.specs.Tally.{row_of, is_right, is_wrong, is_unreadable, is_over_long, data_in, one, times, data_bytes, tally}
 use Rattle.report_frames.specs.Claims.{FramesEnd, HeaderThere, UnreadableOnly, FramesBound, DataBound, TallyExamples}
 use Rattle.report_frames.proofs.Stands.{stands, not_before}
-use Rattle.report_frames.proofs.Ahead.{left_arranged, same, most_frames, times_most}
+use Rattle.report_frames.proofs.Ahead.{left_arranged, same, most_frames_lem, times_most}
 
 pub fresh-arranged : (log : List ℕ) → 1 ≤ blocks log → Arranged log fresh
 fresh-arranged log h = record { inside = omega arith; within = omega arith }
@@ -38,7 +38,7 @@ all_ahead log = omega arith
 pub frames_bound : FramesBound
 unfolding frames_read frames_ahead
 frames_bound log p =
-    omega (arith, times_most p (frames_read log), most_frames log (ahead log fresh) fresh, all_ahead log)
+    omega (arith, times_most p (frames_read log), most_frames_lem log (ahead log fresh) fresh, all_ahead log)
 
 -- the data of the frames ahead fit behind the reader's place
 data_ahead : (log : List ℕ) (k : ℕ) (r : Reader) → Arranged log r → place r + data_bytes (frames_from k log r) ≤ blocks log * 32768

@@ -1,6 +1,6 @@
 -- `mrecordlog::questions::tell_largest` meets its contract.
 -- Assumes nothing.
-use Rattle.mrecordlog.proofs.Telling.{largest_told, largest_nothing, largest_positions, largest_record, largest_refused}
+use Rattle.mrecordlog.proofs.Telling.{largest_told_lem, largest_nothing_lem, largest_positions, largest_record, largest_refused}
 use borrow.Author.Rules.{rules}
 use Rattle.mrecordlog.proofs.questions.tell_largest.Statement.{statement}
 use Rattle.mrecordlog.proofs.questions.tell_largest.Tie as tie
@@ -24,10 +24,10 @@ number-told-requires : tie.Need-number-told-requires
 number-told-requires c κs = search rules
 
 returns : tie.Need-returns
-returns c = largest_told _ _ _ c.before.answer.given.1
+returns c = largest_told_lem _ _ _ c.before.answer.given.1
 
 returns-2 : tie.Need-returns-2
-returns-2 c = largest_nothing _ c.enum_told.given.1
+returns-2 c = largest_nothing_lem _ c.enum_told.given.1
 
 returns-3 : tie.Need-returns-3
 returns-3 c = largest_positions _ _ _ c.before.answer2.given.1
