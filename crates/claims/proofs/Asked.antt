@@ -56,13 +56,13 @@ unfolding range_answer range_by
 range_given m ks n lo hi a q w = w.answer ∙ ap₂ (λ (i : ℕ) (g : Found). range_by i g lo hi) q.passed q.is_held
 
 module _ (m : Memory) (ks n : List ℕ) (lo : Lower) (hi : Upper) (f : FirstItem) (w : RangeGave m ks n lo hi f) where
-  gave-of : OfQueue m ks n
-  gave-of =
+  gave_of : OfQueue m ks n
+  gave_of =
       of_queue m ks n (sym (range-refusal (arranged_with m ks) (meaning m) n lo hi) ∙ ap (λ (x : RangeAnswer). x.refusal) (sym w.kept.answer ∙ w.given))
 
-  first-given : (q : OfQueue m ks n) → first_of (all_in_range lo hi q.queue.records) ≡ f
+  first_given : (q : OfQueue m ks n) → first_of (all_in_range lo hi q.queue.records) ≡ f
   unfolding range_of
-  first-given q = ap (λ (x : RangeAnswer). x.found) (sym (range_given m ks n lo hi w.answer q w.kept) ∙ w.given)
+  first_given q = ap (λ (x : RangeAnswer). x.found) (sym (range_given m ks n lo hi w.answer q w.kept) ∙ w.given)
 
 -- ---- the first of a list
 
@@ -84,16 +84,16 @@ nothing (x ∷ xs) e = never (cc)
 
 module _ (m : Memory) (ks n : List ℕ) (lo : Lower) (hi : Upper) (i : Item) (w : RangeGave m ks n lo hi (first_item i)) (q : OfQueue m ks n) where
   range-begins : Begins i (all_in_range lo hi q.queue.records)
-  range-begins = begins i (all_in_range lo hi q.queue.records) (first-given m ks n lo hi (first_item i) w q)
+  range-begins = begins i (all_in_range lo hi q.queue.records) (first_given m ks n lo hi (first_item i) w q)
 
   -- the range after i is the rest of the range
-  range-again : all_in_range (after_position i.position) hi q.queue.records ≡ range-begins.later
-  range-again = ask_again lo hi q.queue.start q.queue.records i range-begins.later q.rises range-begins.parts
+  range_again : all_in_range (after_position i.position) hi q.queue.records ≡ range-begins.later
+  range_again = ask_again lo hi q.queue.start q.queue.records i range-begins.later q.rises range-begins.parts
 
 pub asked_again : AskedAgain
 unfolding range_of
 asked_again m ks n lo hi i a w k =
-    let q : OfQueue m ks n = gave-of m ks n lo hi (first_item i) w in
+    let q : OfQueue m ks n = gave_of m ks n lo hi (first_item i) w in
     record {
       queue = q.queue;
       is_held = q.is_held;
@@ -101,19 +101,19 @@ asked_again m ks n lo hi i a w k =
       range = (range-begins m ks n lo hi i w q).parts;
       next =
           range_given m ks n (after_position i.position) hi a q k
-          ∙ ap (λ (xs : List Item). gave (first_of xs)) (range-again m ks n lo hi i w q);
+          ∙ ap (λ (xs : List Item). gave (first_of xs)) (range_again m ks n lo hi i w q);
     }
 
 -- ---- to the last
 
 through : (m : Memory) (ks n : List ℕ) (lo : Lower) (hi : Upper) (is : List Item) (q : OfQueue m ks n) → Asks m ks n hi lo is → is ≡ all_in_range lo hi q.queue.records
-through m ks n lo hi _ q (last w) = sym (nothing (all_in_range lo hi q.queue.records) (first-given m ks n lo hi no_item w q))
+through m ks n lo hi _ q (last w) = sym (nothing (all_in_range lo hi q.queue.records) (first_given m ks n lo hi no_item w q))
 through m ks n lo hi _ q (more {is} i w rest) =
-    ap (λ (xs : List Item). i ∷ xs) (through m ks n (after_position i.position) hi is q rest ∙ range-again m ks n lo hi i w q) ∙ sym (range-begins m ks n lo hi i w q).parts
+    ap (λ (xs : List Item). i ∷ xs) (through m ks n (after_position i.position) hi is q rest ∙ range_again m ks n lo hi i w q) ∙ sym (range-begins m ks n lo hi i w q).parts
 
 asked_of : (m : Memory) (ks n : List ℕ) (lo : Lower) (hi : Upper) (is : List Item) → Asks m ks n hi lo is → OfQueue m ks n
-asked_of m ks n lo hi _ (last w) = gave-of m ks n lo hi no_item w
-asked_of m ks n lo hi _ (more i w rest) = gave-of m ks n lo hi (first_item i) w
+asked_of m ks n lo hi _ (last w) = gave_of m ks n lo hi no_item w
+asked_of m ks n lo hi _ (more i w rest) = gave_of m ks n lo hi (first_item i) w
 
 pub asked_through : AskedThrough
 asked_through m ks n lo hi is w =

@@ -74,34 +74,34 @@ module _ (first : Reader) (u : ℕ) where
   Later x = (x.reader ≡ first) ⊎ (u ≤ used x.reader)
 
   module _ (r : Reader) (go : Begun → Reader → Next) (h : u ≤ used r) (on : (b : Begun) → Later (go b r)) where
-    weigh-later : (f e : Bool) (ys : List ℕ) → Later (weigh f e first ys r go)
+    weigh_later : (f e : Bool) (ys : List ℕ) → Later (weigh f e first ys r go)
     unfolding weigh
-    weigh-later false e ys = inl refl
-    weigh-later true true ys = inr h
-    weigh-later true false ys = on (within ys)
+    weigh_later false e ys = inl refl
+    weigh_later true true ys = inr h
+    weigh_later true false ys = on (within ys)
 
-    join-later : (limit : ℕ) (t : FrameType) (b : Begun) → Later (join limit t first b r go)
+    join_later : (limit : ℕ) (t : FrameType) (b : Begun) → Later (join limit t first b r go)
     unfolding join
-    join-later limit t idle = on idle
-    join-later limit t (within ys) = weigh-later (leb (length ys) limit) (ends t) ys
+    join_later limit t idle = on idle
+    join_later limit t (within ys) = weigh_later (leb (length ys) limit) (ends t) ys
 
-    on-frame-later : (log : List ℕ) (limit : ℕ) (b : Begun) (a : FrameAnswer) → Later (on_frame log limit first b a r go)
+    on_frame_later : (log : List ℕ) (limit : ℕ) (b : Begun) (a : FrameAnswer) → Later (on_frame log limit first b a r go)
     unfolding on_frame
-    on-frame-later log limit b (sound t s n) = join-later limit t (gather b t (take n (drop s log)))
-    on-frame-later log limit b (corrupt c) = inr h
-    on-frame-later log limit b not_available = inr h
+    on_frame_later log limit b (sound t s n) = join_later limit t (gather b t (take n (drop s log)))
+    on_frame_later log limit b (corrupt c) = inr h
+    on_frame_later log limit b not_available = inr h
 
-  next-later : (k : ℕ) (log : List ℕ) (limit : ℕ) (b : Begun) (r : Reader) → Arranged log r → u ≤ used r → Later (next k log limit first b r)
+  next_later : (k : ℕ) (log : List ℕ) (limit : ℕ) (b : Begun) (r : Reader) → Arranged log r → u ≤ used r → Later (next k log limit first b r)
   unfolding next
-  next-later zero log limit b r a h = inr h
-  next-later (suc k) log limit b r a h =
+  next_later zero log limit b r a h = inr h
+  next_later (suc k) log limit b r a h =
       let g : u ≤ used (read_frame log r).reader = omega (arith, h, frame_later log r a.within) in
-      on-frame-later (read_frame log r).reader (next k log limit first) g
-      (λ c. next-later k log limit c (read_frame log r).reader (onward log r a).arranged g) log limit b (read_frame log r).answer
+      on_frame_later (read_frame log r).reader (next k log limit first) g
+      (λ c. next_later k log limit c (read_frame log r).reader (onward log r a).arranged g) log limit b (read_frame log r).answer
 
 record_later : (log : List ℕ) (limit : ℕ) (r : Reader) → Arranged log r → used r ≤ used (next_record log limit r).reader
 unfolding next_record next_from
-record_later log limit r a = go (next-later r (used r) (suc (ahead log r)) log limit idle r a (omega arith))
+record_later log limit r a = go (next_later r (used r) (suc (ahead log r)) log limit idle r a (omega arith))
   where
     go : Later r (used r) (next_record log limit r) → used r ≤ used (next_record log limit r).reader
     go (inl e) = omega (arith, ap used e)
@@ -147,9 +147,9 @@ module _ (log s s' : List ℕ) (r r' : Reader) (a : ReadAnswer) (w : ReadKept lo
   reader_by : (k : ℕ) → read_refusal log r ≡ k → r' ≡ (read_step_by k (next_record log (length s) r) r).reader
   reader_by k e = w.reader_left ∙ ap (λ (x : ReadStep). x.reader) (step_by_lem log (length s) r k e)
 
-  read-ahead : (k : ℕ) → read_refusal log r ≡ k → counted_in (given_by s' a ∷ []) + ahead log r' ≤ ahead log r
+  read_ahead : (k : ℕ) → read_refusal log r ≡ k → counted_in (given_by s' a ∷ []) + ahead log r' ≤ ahead log r
   unfolding read_by read_step_by counted_in
-  read-ahead zero e =
+  read_ahead zero e =
       omega (
         arith,
         ap (λ (g : Given). counted_in (g ∷ [])) (given_by_lem 0 e),
@@ -157,7 +157,7 @@ module _ (log s s' : List ℕ) (r r' : Reader) (a : ReadAnswer) (w : ReadKept lo
         ap (ahead log) (reader_by 0 e),
         fewer_ahead log (length s) r (read_passed log r e).arranged,
       )
-  read-ahead (suc k) e = omega (arith, ap (λ (g : Given). counted_in (g ∷ [])) (given_by_lem (suc k) e), ap (ahead log) (reader_by (suc k) e))
+  read_ahead (suc k) e = omega (arith, ap (λ (g : Given). counted_in (g ∷ [])) (given_by_lem (suc k) e), ap (ahead log) (reader_by (suc k) e))
 
 -- ---- read after read
 
@@ -172,7 +172,7 @@ bound_from : (n : ℕ) (r : Reader) (gs : List Given) → ReadsOn n r gs → cou
 unfolding counted_in ahead
 bound_from n r _ none = omega arith
 bound_from n _ _ (read {r} {r'} {gs} log s s' a e w rs) =
-    omega (arith, e, counted_more (given_by s' a) gs, read-ahead log s s' r r' a w (read_refusal log r) refl, bound_from n r' gs rs)
+    omega (arith, e, counted_more (given_by s' a) gs, read_ahead log s s' r r' a w (read_refusal log r) refl, bound_from n r' gs rs)
 
 pub reads_on_bound : ReadsOnBound
 reads_on_bound n gs rs = omega (arith, bound_from n fresh gs rs)

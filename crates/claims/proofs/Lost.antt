@@ -64,33 +64,33 @@ module _ (h : List Fed) (l : Lent) (r : Run h l) (scratch scratch' : List ℕ) (
       ap (replay_of l.log (capacities m)) e ∙ ap (λ (c : Capacities). replay_of l.log c (length l.scratch)) f ∙ states_round_trip h (state_of l) (run_means h l r)
 
   -- in the scratch that was lent to replay
-  lost-is : lost_in (readings l.log (length scratch)) ≡ 0
+  lost_is : lost_in (readings l.log (length scratch)) ≡ 0
   unfolding state_of
-  lost-is = ap (λ (n : ℕ). lost_in (readings l.log n)) e ∙ none_lost h (state_of l) (run_means h l r)
+  lost_is = ap (λ (n : ℕ). lost_in (readings l.log n)) e ∙ none_lost h (state_of l) (run_means h l r)
 
-  bytes-is : lost_bytes l.log (length scratch) ≡ 0
+  bytes_is : lost_bytes l.log (length scratch) ≡ 0
   unfolding state_of
-  bytes-is = ap (lost_bytes l.log) e ∙ states_lose_nothing h (state_of l) (run_means h l r)
+  bytes_is = ap (lost_bytes l.log) e ∙ states_lose_nothing h (state_of l) (run_means h l r)
 
-  resumed-is : (resume l.log (length scratch) ≡ l.place) ⊎ (resume l.log (length scratch) ≡ l.place + padding l.place)
+  resumed_is : (resume l.log (length scratch) ≡ l.place) ⊎ (resume l.log (length scratch) ≡ l.place + padding l.place)
   unfolding state_of
-  resumed-is =
+  resumed_is =
       subst (λ (n : ℕ). (resume l.log n ≡ l.place) ⊎ (resume l.log n ≡ l.place + padding l.place)) (sym e) (resumes_behind h (state_of l) (run_means h l r))
 
-  nothing-lost : NothingLost a l.place
+  nothing_lost : NothingLost a l.place
   unfolding replayed_by replay_answer replay_answer_by
-  nothing-lost =
+  nothing_lost =
       record {
         resumed = resume l.log (length scratch);
         answer =
             answers l.log scratch scratch' m m' a w (left (meaning l.memory)) given_back
-            ∙ ap₂ (λ (n b : ℕ). replayed n b (resume l.log (length scratch))) lost-is bytes-is;
-        resumes = resumed-is;
+            ∙ ap₂ (λ (n b : ℕ). replayed n b (resume l.log (length scratch))) lost_is bytes_is;
+        resumes = resumed_is;
       }
 
 pub round_trip_nothing_lost : RoundTripNothingLost
 round_trip_nothing_lost h l r scratch scratch' m m' ks ks' a e f g w =
-    nothing-lost h l r scratch scratch' m m' a e f (queues_kept l.log m ks (λ _. run_long h l r m ks f g) scratch scratch' m' a ks' w)
+    nothing_lost h l r scratch scratch' m m' a e f (queues_kept l.log m ks (λ _. run_long h l r m ks f g) scratch scratch' m' a ks' w)
 
 -- ---- one hit frame
 

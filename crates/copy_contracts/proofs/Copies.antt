@@ -48,16 +48,16 @@ module _ (target scratch target' scratch' : List ℕ) (m : Memory) (ks : List �
   end_is : end ≡ (copy_of (lent_of target scratch m ks)).end
   end_is = w.end_is
 
-  with-table : arranged_with m ks ≡ true
+  with_table : arranged_with m ks ≡ true
   unfolding lent_of
-  with-table = (copy_passed (lent_of target scratch m ks) taken).is_arranged
+  with_table = (copy_passed (lent_of target scratch m ks) taken).is_arranged
 
-  was-arranged : arranged m ≡ true
-  was-arranged = with_arranged m ks with-table
+  was_arranged : arranged m ≡ true
+  was_arranged = with_arranged m ks with_table
 
   -- the copy's further table is long enough, and so is another of its length beside memory of the same sizes
-  was-long : (n : Memory) (js : List ℕ) → capacities n ≡ capacities m → length js ≡ length ks → length n.entries ≤ length js
-  was-long n js c l = omega (arith, l, same_entries m n c, long_enough m ks (with_kept m ks with-table))
+  was_long : (n : Memory) (js : List ℕ) → capacities n ≡ capacities m → length js ≡ length ks → length n.entries ≤ length js
+  was_long n js c l = omega (arith, l, same_entries m n c, long_enough m ks (with_kept m ks with_table))
 
 -- ---- what replay's contract says of queues left
 
@@ -68,7 +68,7 @@ gives_at log scratch scratch' m m' ks ks' a c limit qs long w n f e =
 
 pub copy_replays : CopyReplays
 copy_replays target scratch target' scratch' m ks end w again again' n n' js js' a l c j r =
-    gives_at target' again again' n n' js js' a (capacities m) (length scratch) (meaning m) (was-long target scratch target' scratch' m ks end w n js c j) r l c
+    gives_at target' again again' n n' js js' a (capacities m) (length scratch) (meaning m) (was_long target scratch target' scratch' m ks end w n js c j) r l c
     (ap (λ (log : List ℕ). replay_of log (capacities m) (length scratch)) w.target_left
     ∙ memory_copy_replays target scratch m ks w.typed (taken target scratch target' scratch' m ks end w) (capacities m) refl (length scratch) refl)
 
@@ -84,13 +84,13 @@ copy_reads target scratch target' scratch' m ks end w s gs h r =
     reads_all target' s gs r
     ∙ ap (λ (log : List ℕ). readings log (length s)) w.target_left
     ∙ states_copy_reads (lent_of target scratch m ks) (taken target scratch target' scratch' m ks end w)
-    (arranged_ordered (capacities m) (meaning m) (memory-arranged m (was-arranged target scratch target' scratch' m ks end w))) (memory_typed m w.typed) (length s) h
+    (arranged_ordered (capacities m) (meaning m) (memory-arranged m (was_arranged target scratch target' scratch' m ks end w))) (memory_typed m w.typed) (length s) h
 
 pub copy_placed : CopyPlaced
 unfolding state_not_arranged state_of lent_of
 copy_placed target scratch target' scratch' m ks end w =
     let p = copy_place (lent_of target scratch m ks) (taken target scratch target' scratch' m ks end w) in
-    ap₂ (λ (a b : Bool). not a || b) (with-table target scratch target' scratch' m ks end w)
+    ap₂ (λ (a b : Bool). not a || b) (with_table target scratch target' scratch' m ks end w)
     (le-ltb (blocks target' * 32768) end (omega (arith, end_is target scratch target' scratch' m ks end w, p.end_inside, p.same_length, ap length w.target_left)))
 
 -- ---- calls that go on
@@ -105,18 +105,18 @@ next_means target scratch target' scratch' m ks end w =
     ap₂ (λ (log : List ℕ) (i : ℕ). record { log = log; place = i; queues = meaning m; arranged = arranged_with m ks; capacities = capacities m; scratch = length scratch' })
     w.target_left (end_is target scratch target' scratch' m ks end w)
     ∙ ap₂ (λ (b : Bool) (n : ℕ). record { log = (copy_of (lent_of target scratch m ks)).target; place = (copy_of (lent_of target scratch m ks)).end; queues = meaning m; arranged = b; capacities = capacities m; scratch = n })
-    (with-table target scratch target' scratch' m ks end w) long
+    (with_table target scratch target' scratch' m ks end w) long
 
 pub copy_goes_on : CopyGoesOn
 unfolding state_of lent_of
 copy_goes_on target scratch target' scratch' m ks end w h l since =
     let v = states_copy_goes_on (lent_of target scratch m ks) (capacities m) (taken target scratch target' scratch' m ks end w)
-    (memory-arranged m (was-arranged target scratch target' scratch' m ks end w)) (memory_typed m w.typed) h (state_of l)
+    (memory-arranged m (was_arranged target scratch target' scratch' m ks end w)) (memory_typed m w.typed) h (state_of l)
     (subst (λ (s : State). StatesSince s h (state_of l)) (next_means target scratch target' scratch' m ks end w) (since_means (copied_lent target' end scratch' m ks) since)) in
     record {
       reading = λ s gs few r. reads_all l.log s gs r ∙ v.reading (length s) few;
       replay = λ again again' n n' js js' a long c j r.
           gives_at l.log again again' n n' js js' a (capacities l.memory) (length l.scratch) (meaning l.memory)
-          (omega (arith, j, same_entries l.memory n c, long_enough l.memory l.largest (with_kept l.memory l.largest (since_kept since (with-table target scratch target' scratch' m ks end w)))))
+          (omega (arith, j, same_entries l.memory n c, long_enough l.memory l.largest (with_kept l.memory l.largest (since_kept since (with_table target scratch target' scratch' m ks end w)))))
           r long c v.replay;
     }

@@ -59,9 +59,9 @@ module _ (n limit : ℕ) (before : List (List ℕ)) (xs tail log : List ℕ) (fi
           subst (λ (t : List ℕ). Written (bytes_of s.frames) e s.k tail rs (write_all t q rs)) (sym s.is)
           (written (bytes_of s.frames) tail e s.k (omega (arith, length_bytes 0 s.frames s.stands)) rs q g (omega (arith, s.total)))
 
-  headed-after : (s : Headed n before xs tail log) → (q ≡ ends_at s) ⊎ (q ≡ ends_at s + padding (ends_at s))
+  headed_after : (s : Headed n before xs tail log) → (q ≡ ends_at s) ⊎ (q ≡ ends_at s + padding (ends_at s))
       → (reads_from (write_all log q rs) limit fresh).answers ≡ map whole before ++ (given headed xs ++ (map whole rs ++ (end_of_log ∷ [])))
-  headed-after s g =
+  headed_after s g =
       (headed_gives limit s fit hn rs hr (write_all log q rs) (e + s.k - place_all e rs) (omega (arith, w.size, s.total)) (w.is ∙ sym (with_rest (bytes_of (frames_all e rs) ++ (zeros (e + s.k - place_all e rs) ++ tail))))
       (omega (arith, w.inside, s.total))).answers
     where
@@ -107,9 +107,9 @@ module _ (n limit : ℕ) (before : List (List ℕ)) (xs tail log : List ℕ) (fi
           (written front tail e s.k front_length rs q g (omega (arith, s.total)))
 
   -- after the block of a header that has no type
-  torn-after : (s : Torn n before xs tail log) → q ≡ beyond (end_of 0 s.frames) → blocks log ≡ n → (i : ℕ)
+  torn_after : (s : Torn n before xs tail log) → q ≡ beyond (end_of 0 s.frames) → blocks log ≡ n → (i : ℕ)
       → (reads_from (write_all log q rs) limit fresh).answers ≡ map whole before ++ (given (torn i) xs ++ (map whole rs ++ (end_of_log ∷ [])))
-  torn-after s g size i =
+  torn_after s g size i =
       (torn_on_gives limit s fit hn (write_all log q rs) (b + j - place_all b rs) (omega (arith, w.size, beyond_inside limit fit hn size s)) (zeros m ++ new) (w.is ∙ regroup) rs hr
       (ap (drop b) w.is ∙ drop_at front new b front_length) (omega (arith, w.inside, beyond_inside limit fit hn size s)) i).answers
     where
@@ -157,14 +157,14 @@ module _ (n limit : ℕ) (before : List (List ℕ)) (xs tail log : List ℕ) (fi
             beyond_fits limit fit hn size s,
           )
 
-      k-is : m + j ≡ s.k
-      k-is = omega (arith, s.total, beyond_fits limit fit hn size s, beyond_inside limit fit hn size s)
+      k_is : m + j ≡ s.k
+      k_is = omega (arith, s.total, beyond_fits limit fit hn size s, beyond_inside limit fit hn size s)
 
       log_is : log ≡ front ++ (zeros j ++ tail)
       log_is =
           s.is
           ∙ ap (λ (a : List ℕ). bytes_of s.frames ++ (zeros d ++ (s.seven ++ a)))
-          (ap (λ (a : List ℕ). a ++ tail) (ap zeros (sym k-is) ∙ sym (replicate-append-replicate m j 0)) ∙ append_assoc (zeros m) (zeros j) tail)
+          (ap (λ (a : List ℕ). a ++ tail) (ap zeros (sym k_is) ∙ sym (replicate-append-replicate m j 0)) ∙ append_assoc (zeros m) (zeros j) tail)
           ∙ sym (group (zeros j ++ tail))
 
       w : Written front b j tail rs (write_all log q rs)
@@ -217,15 +217,15 @@ covered-after n limit before xs tail log fit hn ht ys rs hr q room s g size =
     log_is : log ≡ front ++ (s.seven ++ (zeros s.k ++ tail))
     log_is = s.is ∙ sym (append_assoc (bytes_of s.frames) (zeros d) (s.seven ++ (zeros s.k ++ tail)))
 
-    plain-is : plain_log ≡ front ++ (zeros 7 ++ (zeros s.k ++ tail))
-    plain-is =
+    plain_is : plain_log ≡ front ++ (zeros 7 ++ (zeros s.k ++ tail))
+    plain_is =
         ap (λ (a : List ℕ). bytes_of s.frames ++ a)
         (ap (λ (a : List ℕ). a ++ tail) (sym (replicate-append-replicate d (7 + s.k) 0) ∙ ap (λ (a : List ℕ). zeros d ++ a) (sym (replicate-append-replicate 7 s.k 0)))
         ∙ append_assoc (zeros d) (zeros 7 ++ zeros s.k) tail ∙ ap (λ (a : List ℕ). zeros d ++ a) (append_assoc (zeros 7) (zeros s.k) tail))
         ∙ sym (append_assoc (bytes_of s.frames) (zeros d) (zeros 7 ++ (zeros s.k ++ tail)))
 
-    plain-length : length plain_log ≡ n * 32768 + length tail
-    plain-length =
+    plain_length : length plain_log ≡ n * 32768 + length tail
+    plain_length =
         omega (
           arith,
           length-append (bytes_of s.frames) (zeros k ++ tail),
@@ -240,7 +240,7 @@ covered-after n limit before xs tail log fit hn ht ys rs hr q room s g size =
         omega (
           arith,
           ap length log_is,
-          ap length plain-is,
+          ap length plain_is,
           length-append front (s.seven ++ (zeros s.k ++ tail)),
           length-append front (zeros 7 ++ (zeros s.k ++ tail)),
           length-append s.seven (zeros s.k ++ tail),
@@ -250,13 +250,13 @@ covered-after n limit before xs tail log fit hn ht ys rs hr q room s g size =
 
     same : write_all log q (ys ∷ rs) ≡ write_all plain_log q (ys ∷ rs)
     same =
-        write_all_lem (ys ∷ rs) log q (omega (arith, long, plain-length, length-written q (ys ∷ rs))) (omega (arith, long, plain-length))
+        write_all_lem (ys ∷ rs) log q (omega (arith, long, plain_length, length-written q (ys ∷ rs))) (omega (arith, long, plain_length))
         ∙ ap (λ (t : List ℕ). put t q r) log_is
         ∙ put_covers front s.seven (zeros s.k ++ tail) r q front_length (omega (arith, s.size, longer q ys rs))
         ∙ ap (λ (i : ℕ). front ++ (r ++ drop (length r - i) (zeros s.k ++ tail))) s.size
         ∙ sym (put_covers front (zeros 7) (zeros s.k ++ tail) r q front_length (longer q ys rs))
-        ∙ ap (λ (t : List ℕ). put t q r) (sym plain-is)
-        ∙ sym (write_all_lem (ys ∷ rs) plain_log q (omega (arith, plain-length, length-written q (ys ∷ rs))) (omega (arith, plain-length)))
+        ∙ ap (λ (t : List ℕ). put t q r) (sym plain_is)
+        ∙ sym (write_all_lem (ys ∷ rs) plain_log q (omega (arith, plain_length, length-written q (ys ∷ rs))) (omega (arith, plain_length)))
 
 -- ---- in each case, from where the writer resumes
 
@@ -275,17 +275,17 @@ module _ (n limit again : ℕ) (before : List (List ℕ)) (xs tail log : List �
   unfolding given_after
   uncovered l e g = g ∙ ap (λ (b : Bool). map whole before ++ (cond b [] (given l xs) ++ (map whole rs ++ (end_of_log ∷ [])))) (sym e)
 
-  after-clean : {l : Left} → Clean n before xs tail log l → ReadBack n limit again before xs log rs l
+  after_clean : {l : Left} → Clean n before xs tail log l → ReadBack n limit again before xs log rs l
   unfolding resume
-  after-clean {l} s =
+  after_clean {l} s =
       uncovered l (s.plain rs)
       (clean_after n again before xs tail log fits hn ht rs hr (resume log limit) room s ((clean_read limit fit hn size s).left (finished_all before l xs [])))
 
-  after-headed : Headed n before xs tail log → ReadBack n limit again before xs log rs headed
+  after_headed : Headed n before xs tail log → ReadBack n limit again before xs log rs headed
   unfolding resume covered
-  after-headed s =
+  after_headed s =
       uncovered headed refl
-      (headed-after n again before xs tail log fits hn ht rs hr (resume log limit) room s ((headed_read limit fit hn size s).left (finished_all before headed xs [])))
+      (headed_after n again before xs tail log fits hn ht rs hr (resume log limit) room s ((headed_read limit fit hn size s).left (finished_all before headed xs [])))
 
 torn_resume : (n limit : ℕ) (before : List (List ℕ)) (xs tail log : List ℕ) (fit : Fits limit before xs) (hn : 0 < n) (size : blocks log ≡ n) (s : Torn n before xs tail log)
     → resume log limit ≡ torn_place limit fit hn size s
@@ -300,28 +300,28 @@ module _ (n limit again : ℕ) (before : List (List ℕ)) (xs tail log : List �
   abbrev at : ℕ
   at = end_of 0 s.frames + padding (end_of 0 s.frames)
 
-  resumes-at : (b : Bool) → eqb (suc (at / 32768)) n ≡ b → resume log limit ≡ cond b at (beyond (end_of 0 s.frames))
+  resumes_at : (b : Bool) → eqb (suc (at / 32768)) n ≡ b → resume log limit ≡ cond b at (beyond (end_of 0 s.frames))
   unfolding torn_place
-  resumes-at b e = torn_resume n limit before xs tail log fit hn size s ∙ ap (λ (x : Bool). cond x at (beyond (end_of 0 s.frames))) e
+  resumes_at b e = torn_resume n limit before xs tail log fit hn size s ∙ ap (λ (x : Bool). cond x at (beyond (end_of 0 s.frames))) e
 
-  after-torn : (rs : List (List ℕ)) → Each (λ ys. length ys ≤ again) rs → place_all (resume log limit) rs ≤ n * 32768 → ReadBack n limit again before xs log rs (torn at)
+  after_torn : (rs : List (List ℕ)) → Each (λ ys. length ys ≤ again) rs → place_all (resume log limit) rs ≤ n * 32768 → ReadBack n limit again before xs log rs (torn at)
   unfolding write_all given_after covered
-  after-torn [] hr room = (torn_read again fits hn size s at).answers
-  after-torn (ys ∷ rs) hr room = go (eqb (suc (at / 32768)) n) refl
+  after_torn [] hr room = (torn_read again fits hn size s at).answers
+  after_torn (ys ∷ rs) hr room = go (eqb (suc (at / 32768)) n) refl
     where
       go : (b : Bool) → eqb (suc (at / 32768)) n ≡ b
           → (reads_from (write_all log (resume log limit) (ys ∷ rs)) again fresh).answers ≡ map whole before ++ (cond b [] (given (torn at) xs) ++ (map whole (ys ∷ rs) ++ (end_of_log ∷ [])))
-      go true e = covered-after n again before xs tail log fits hn ht ys rs hr (resume log limit) room s (resumes-at true e) size
-      go false e = torn-after n again before xs tail log fits hn ht (ys ∷ rs) hr (resume log limit) room s (resumes-at false e) size at
+      go true e = covered-after n again before xs tail log fits hn ht ys rs hr (resume log limit) room s (resumes_at true e) size
+      go false e = torn_after n again before xs tail log fits hn ht (ys ∷ rs) hr (resume log limit) room s (resumes_at false e) size at
 
 after_state : (n limit again : ℕ) (before : List (List ℕ)) (xs tail log : List ℕ) → Fits limit before xs → Fits again before xs → 0 < n → length tail < 32768 → blocks log ≡ n
     → (l : Left) → State n before xs tail log l
     → (rs : List (List ℕ)) → Each (λ ys. length ys ≤ again) rs → place_all (resume log limit) rs ≤ n * 32768 → ReadBack n limit again before xs log rs l
-after_state n limit again before xs tail log fit fits hn ht size l (is_clean s) rs hr room = after-clean n limit again before xs tail log fit fits hn ht size rs hr room s
+after_state n limit again before xs tail log fit fits hn ht size l (is_clean s) rs hr room = after_clean n limit again before xs tail log fit fits hn ht size rs hr room s
 after_state n limit again before xs tail log fit fits hn ht size l (is_headed s e) rs hr room =
-    subst (ReadBack n limit again before xs log rs) (sym e) (after-headed n limit again before xs tail log fit fits hn ht size rs hr room s)
+    subst (ReadBack n limit again before xs log rs) (sym e) (after_headed n limit again before xs tail log fit fits hn ht size rs hr room s)
 after_state n limit again before xs tail log fit fits hn ht size l (is_torn s e) rs hr room =
-    subst (ReadBack n limit again before xs log rs) (sym e) (after-torn n limit again before xs tail log fit fits hn ht size s rs hr room)
+    subst (ReadBack n limit again before xs log rs) (sym e) (after_torn n limit again before xs tail log fit fits hn ht size s rs hr room)
 
 pub cut_written : CutWritten
 unfolding read_all

@@ -28,8 +28,8 @@ cut_of_writing n c before xs tail other room low high =
     k : ℕ
     k = n * 32768 - place_all 0 before
 
-    c-is : c ≡ p + (c - p)
-    c-is = omega arith
+    c_is : c ≡ p + (c - p)
+    c_is = omega arith
 
     size : length (laid n (before ++ (xs ∷ []))) ≡ n * 32768
     size = unfold place_all in
@@ -45,7 +45,7 @@ cut_of_writing n c before xs tail other room low high =
     rest : drop c (laid n before ++ tail) ≡ zeros (length (laid n (before ++ (xs ∷ []))) - c) ++ tail
     rest =
         ap (drop c) log_is
-        ∙ ap (λ (i : ℕ). drop i (records_bytes 0 before ++ (zeros k ++ tail))) c-is
+        ∙ ap (λ (i : ℕ). drop i (records_bytes 0 before ++ (zeros k ++ tail))) c_is
         ∙ sym (drop-drop (c - p) p (records_bytes 0 before ++ (zeros k ++ tail)))
         ∙ ap (drop (c - p)) (drop_at (records_bytes 0 before) (zeros k ++ tail) p (omega (arith, length-written 0 before)))
         ∙ drop-zeros (c - p) k (length (laid n (before ++ (xs ∷ []))) - c) tail (omega (arith, size))

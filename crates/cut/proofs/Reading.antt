@@ -56,8 +56,8 @@ module _ {n : ℕ} (limit : ℕ) {before : List (List ℕ)} {xs tail log₀ : Li
     (rs : List (List ℕ)) (hr : Each (λ ys. length ys ≤ limit) rs) (log : List ℕ) (k : ℕ) (size : blocks log ≡ n)
     (is : log ≡ bytes_of s.frames ++ (bytes_of (frames_all (end_of 0 s.frames) rs) ++ (zeros k ++ tail)))
     (total : place_all (end_of 0 s.frames) rs + k ≡ n * 32768) where
-  clean-sees : Sees log (Near (place_all (end_of 0 s.frames) rs)) fresh (map event s.frames ++ map event (frames_all (end_of 0 s.frames) rs))
-  clean-sees =
+  clean_sees : Sees log (Near (place_all (end_of 0 s.frames) rs)) fresh (map event s.frames ++ map event (frames_all (end_of 0 s.frames) rs))
+  clean_sees =
       sees_frames log s.frames 0 fresh (bytes_of gs ++ (zeros k ++ tail)) (map event gs) (fresh_at log (omega arith)) s.stands is
       (omega (arith, end_ge e gs, end_all e rs))
       (λ r a. sees_rest log gs e r k tail a (laid_all e rs) there (omega (arith, end_all e rs))
@@ -78,7 +78,7 @@ module _ {n : ℕ} (limit : ℕ) {before : List (List ℕ)} {xs tail log₀ : Li
       subst (λ (x : List Answer). Gives (Near (place_all (end_of 0 s.frames) rs)) x (reads_from log limit fresh))
       (s.puts limit fit (map event (frames_all (end_of 0 s.frames) rs)) (restarts_records limit (end_of 0 s.frames) rs)
       ∙ ap (λ (x : List Answer). map whole before ++ (given l xs ++ x)) (puts-records limit (end_of 0 s.frames) rs hr))
-      (reads_from_sees log limit (omega arith) clean-sees)
+      (reads_from_sees log limit (omega arith) clean_sees)
 
 -- ---- frames, a whole header with other data, zeros
 
@@ -91,8 +91,8 @@ module _ {n : ℕ} (limit : ℕ) {before : List (List ℕ)} {xs tail log₀ : Li
     (is : log ≡ bytes_of s.frames ++ (zeros (padding (end_of 0 s.frames))
     ++ header s.sum (length s.datas) (type_number s.at.kind) (s.datas ++ (bytes_of (frames_all (ends_at s) rs) ++ (zeros k ++ tail)))))
     (total : place_all (ends_at s) rs + k ≡ n * 32768) where
-  headed-sees : Sees log (Near (place_all (ends_at s) rs)) fresh (map event s.frames ++ (corrupted wrong_checksum ∷ map event (frames_all (ends_at s) rs)))
-  headed-sees =
+  headed_sees : Sees log (Near (place_all (ends_at s) rs)) fresh (map event s.frames ++ (corrupted wrong_checksum ∷ map event (frames_all (ends_at s) rs)))
+  headed_sees =
       sees_frames log s.frames 0 fresh (zeros (padding e) ++ y) (corrupted wrong_checksum ∷ map event gs) (fresh_at log (omega arith)) s.stands is (omega arith)
       (λ r a. sees_headed log e r a s.at.kind s.sum s.datas s.four s.fits (omega arith) s.told gs k tail here (laid_all q rs) ends
       (λ r' a'. subst (λ (i : ℕ). Near i (read_frame log r').reader) (end_all q rs)
@@ -127,24 +127,24 @@ module _ {n : ℕ} (limit : ℕ) {before : List (List ℕ)} {xs tail log₀ : Li
       subst (λ (x : List Answer). Gives (Near (place_all (ends_at s) rs)) x (reads_from log limit fresh))
       (s.puts limit fit (corrupted wrong_checksum ∷ map event (frames_all (ends_at s) rs)) (restarts_bad limit wrong_checksum (map event (frames_all (ends_at s) rs)))
       ∙ ap (λ (x : List Answer). map whole before ++ x) (unfold assemble in ap (λ (x : List Answer). corruption wrong_checksum ∷ x) (puts-records limit (ends_at s) rs hr)))
-      (reads_from_sees log limit (omega arith) headed-sees)
+      (reads_from_sees log limit (omega arith) headed_sees)
 
 -- ---- frames, a part of a header, zeros
 
 module _ {n : ℕ} (limit : ℕ) {before : List (List ℕ)} {xs tail log₀ : List ℕ} (s : Torn n before xs tail log₀) (fit : Fits limit before xs) (hn : 0 < n) (log : List ℕ) (k : ℕ) (size : blocks log ≡ n)
     (rest : List ℕ) (is : log ≡ bytes_of s.frames ++ (zeros (padding (end_of 0 s.frames)) ++ (s.seven ++ rest))) where
-  torn-there : drop (end_of 0 s.frames + padding (end_of 0 s.frames)) log ≡ s.seven ++ rest
-  torn-there =
+  torn_there : drop (end_of 0 s.frames + padding (end_of 0 s.frames)) log ≡ s.seven ++ rest
+  torn_there =
       behind-padding log (s.seven ++ rest) (end_of 0 s.frames) (padding (end_of 0 s.frames)) refl
       (rest_there log s.frames 0 (zeros (padding (end_of 0 s.frames)) ++ (s.seven ++ rest)) s.stands is)
 
   -- no records after it
-  torn-sees : drop (beyond (end_of 0 s.frames)) log ≡ zeros k ++ tail → beyond (end_of 0 s.frames) + k ≡ n * 32768
+  torn_sees : drop (beyond (end_of 0 s.frames)) log ≡ zeros k ++ tail → beyond (end_of 0 s.frames) + k ≡ n * 32768
       → Sees log (λ r. place r ≡ place (read_frame log (spoilt_at (end_of 0 s.frames))).reader) fresh (map event s.frames ++ (corrupted unknown_type ∷ []))
-  torn-sees d w =
+  torn_sees d w =
       sees_frames log s.frames 0 fresh (zeros (padding e) ++ (s.seven ++ rest)) (corrupted unknown_type ∷ []) (fresh_at log (omega arith)) s.stands is
       (omega (arith, s.total))
-      (λ r a. sees_torn log e r a s.seven rest s.size (omega (arith, s.total)) torn-there s.some s.untyped k tail d (omega arith) refl)
+      (λ r a. sees_torn log e r a s.seven rest s.size (omega (arith, s.total)) torn_there s.some s.untyped k tail d (omega arith) refl)
     where
       e : ℕ
       e = end_of 0 s.frames
@@ -155,16 +155,16 @@ module _ {n : ℕ} (limit : ℕ) {before : List (List ℕ)} {xs tail log₀ : Li
   torn_gives d w i =
       subst (λ (x : List Answer). Gives (λ r. place r ≡ place (read_frame log (spoilt_at (end_of 0 s.frames))).reader) x (reads_from log limit fresh))
       (s.puts limit fit (corrupted unknown_type ∷ []) (restarts_bad limit unknown_type []) ∙ (unfold assemble in refl))
-      (reads_from_sees log limit (omega arith) (torn-sees d w))
+      (reads_from_sees log limit (omega arith) (torn_sees d w))
 
   -- records after its block
-  torn-on-sees : (rs : List (List ℕ)) → drop (beyond (end_of 0 s.frames)) log ≡ bytes_of (frames_all (beyond (end_of 0 s.frames)) rs) ++ (zeros k ++ tail)
+  torn_on_sees : (rs : List (List ℕ)) → drop (beyond (end_of 0 s.frames)) log ≡ bytes_of (frames_all (beyond (end_of 0 s.frames)) rs) ++ (zeros k ++ tail)
       → place_all (beyond (end_of 0 s.frames)) rs + k ≡ n * 32768
       → Sees log Any fresh (map event s.frames ++ (corrupted unknown_type ∷ map event (frames_all (beyond (end_of 0 s.frames)) rs)))
-  torn-on-sees rs d w =
+  torn_on_sees rs d w =
       sees_frames log s.frames 0 fresh (zeros (padding e) ++ (s.seven ++ rest)) (corrupted unknown_type ∷ map event (frames_all (beyond e) rs)) (fresh_at log (omega arith)) s.stands is
       (omega (arith, s.total))
-      (λ r a. sees_torn_on log e r a s.seven rest s.size (omega (arith, s.total)) torn-there s.some s.untyped (frames_all (beyond e) rs) k tail (laid_all (beyond e) rs) d
+      (λ r a. sees_torn_on log e r a s.seven rest s.size (omega (arith, s.total)) torn_there s.some s.untyped (frames_all (beyond e) rs) k tail (laid_all (beyond e) rs) d
       (omega (arith, end_all (beyond e) rs)))
     where
       e : ℕ
@@ -179,7 +179,7 @@ module _ {n : ℕ} (limit : ℕ) {before : List (List ℕ)} {xs tail log₀ : Li
       subst (λ (x : List Answer). Gives Any x (reads_from log limit fresh))
       (s.puts limit fit (corrupted unknown_type ∷ map event (frames_all b rs)) (restarts_bad limit unknown_type (map event (frames_all b rs)))
       ∙ ap (λ (x : List Answer). map whole before ++ x) (unfold assemble in ap (λ (x : List Answer). corruption unknown_type ∷ x) (puts-records limit b rs hr)))
-      (reads_from_sees log limit (omega arith) (torn-on-sees rs d w))
+      (reads_from_sees log limit (omega arith) (torn_on_sees rs d w))
     where
       b : ℕ
       b = beyond (end_of 0 s.frames)
@@ -207,7 +207,7 @@ module _ {n : ℕ} (limit : ℕ) {before : List (List ℕ)} {xs tail log : List 
     pub behind_seven : drop (end_of 0 s.frames + padding (end_of 0 s.frames) + 7) log ≡ zeros s.k ++ tail
     behind_seven =
         sym (drop-drop 7 (end_of 0 s.frames + padding (end_of 0 s.frames)) log)
-        ∙ ap (drop 7) (torn-there limit s fit hn log s.k size (zeros s.k ++ tail) s.is)
+        ∙ ap (drop 7) (torn_there limit s fit hn log s.k size (zeros s.k ++ tail) s.is)
         ∙ drop_at s.seven (zeros s.k ++ tail) 7 s.size
 
     pub torn_beyond : drop (beyond (end_of 0 s.frames)) log ≡ zeros (n * 32768 - beyond (end_of 0 s.frames)) ++ tail

@@ -39,10 +39,10 @@ split s = omega arith
 module _ (log : List ℕ) (p : ℕ) (r : Reader) (a : At log p r) (t : FrameType) (sum xs : List ℕ) (four : length sum ≡ 4)
     (fits : (p + padding p) % 32768 + 7 + length xs ≤ 32768) (inside : p + padding p < blocks log * 32768)
     (told : crc32 (type_number t ∷ xs) ≡ le sum → ⊥) where
-  read-headed : (rest : List ℕ) → drop (p + padding p) log ≡ header sum (length xs) (type_number t) (xs ++ rest)
+  read_headed : (rest : List ℕ) → drop (p + padding p) log ≡ header sum (length xs) (type_number t) (xs ++ rest)
       → read_frame log r ≡ record { answer = corrupt wrong_checksum; reader = behind (p + padding p) (length xs) }
   unfolding judge
-  read-headed rest e =
+  read_headed rest e =
       reads_header log p r (at_arrives log p r a) (type_number t) sum xs rest four fits inside e
       (λ z. omega (arith, type_low t, zero_type sum (xs ++ rest) (length xs) (type_number t) four z))
       ∙ ap₂ (λ (u : TypeByte) (v : Bool). judge false u true v ((p + padding p) / 32768) ((p + padding p) % 32768) (length xs)) (type_back t)
@@ -59,7 +59,7 @@ module _ (log : List ℕ) (p : ℕ) (r : Reader) (a : At log p r) (t : FrameType
       → ((r' : Reader) → At log (end_of (p + padding p + 7 + length xs) gs) r' → Z (read_frame log r').reader)
       → Sees log Z r (corrupted wrong_checksum ∷ map event gs)
   sees_headed {Z} gs k tail e l w z =
-      let q = read-headed (bytes_of gs ++ (zeros k ++ tail)) e in
+      let q = read_headed (bytes_of gs ++ (zeros k ++ tail)) e in
       bad wrong_checksum (ap (λ (y : FrameRead). y.answer) q) tt
       (subst (λ (y : FrameRead). Sees log Z y.reader (map event gs)) (sym q)
       (sees_rest log gs (p + padding p + 7 + length xs) (behind (p + padding p) (length xs)) k tail
@@ -86,22 +86,22 @@ refuted false h = refl
 module _ (log : List ℕ) (p : ℕ) (r : Reader) (a : At log p r) (w rest : List ℕ) (seven : length w ≡ 7)
     (inside : p + padding p < blocks log * 32768)
     (e : drop (p + padding p) log ≡ w ++ rest) (some : all_zero w ≡ true → ⊥) (type : get_or w 6 0 ≡ 0) where
-  read-torn : read_frame log r ≡ record { answer = corrupt unknown_type; reader = spoilt_at p }
+  read_torn : read_frame log r ≡ record { answer = corrupt unknown_type; reader = spoilt_at p }
   unfolding look judge
-  read-torn =
+  read_torn =
       (at_arrives log p r a).reads inside
       ∙ ap (look ((p + padding p) / 32768) ((p + padding p) % 32768)) (ap (λ (i : ℕ). drop i log) (split (p + padding p)) ∙ e)
       ∙ ap₂ (λ (z : Bool) (u : TypeByte). judge z u (leb ((p + padding p) % 32768 + 7 + (header_of (w ++ rest)).len) 32768)
       (eqb (crc32 ((header_of (w ++ rest)).kind ∷ content_of (w ++ rest))) (header_of (w ++ rest)).checksum) ((p + padding p) / 32768) ((p + padding p) % 32768)
       (header_of (w ++ rest)).len)
       (refuted (all_zero (take 7 (w ++ rest))) (λ z. some (ap all_zero (sym (take_at w rest 7 seven)) ∙ z)))
-      (ap type_of (kind ∙ type) ∙ zero-unknown)
+      (ap type_of (kind ∙ type) ∙ zero_unknown)
     where
       kind : get_or (w ++ rest) 6 0 ≡ get_or w 6 0
       kind = get_or-append w rest 0 6 (omega (arith, seven))
 
-      zero-unknown : type_of 0 ≡ unknown
-      zero-unknown = unfold type_of type_when in refl
+      zero_unknown : type_of 0 ≡ unknown
+      zero_unknown = unfold type_of type_when in refl
 
   arrives : Arrives log (beyond p) (spoilt_at p)
   arrives = spoilt_arrives log (beyond p) (spoilt_at p) refl (omega (arith, beyond_none p))
@@ -110,8 +110,8 @@ module _ (log : List ℕ) (p : ℕ) (r : Reader) (a : At log p r) (w rest : List
   pub sees_torn : {Z : Reader → Type 0} (k : ℕ) (tail : List ℕ) → drop (beyond p) log ≡ zeros k ++ tail → beyond p + k ≡ blocks log * 32768
       → Z (read_frame log (spoilt_at p)).reader → Sees log Z r (corrupted unknown_type ∷ [])
   sees_torn {Z} k tail d h z =
-      bad unknown_type (ap (λ (y : FrameRead). y.answer) read-torn) tt
-      (subst (λ (y : FrameRead). Sees log Z y.reader []) (sym read-torn) (sees_zeros log (beyond p) (spoilt_at p) k tail arrives d h z))
+      bad unknown_type (ap (λ (y : FrameRead). y.answer) read_torn) tt
+      (subst (λ (y : FrameRead). Sees log Z y.reader []) (sym read_torn) (sees_zeros log (beyond p) (spoilt_at p) k tail arrives d h z))
 
   -- frames after its block
   pub sees_torn_on : (gs : List Frame) (k : ℕ) (tail : List ℕ) → Laid (beyond p) gs → drop (beyond p) log ≡ bytes_of gs ++ (zeros k ++ tail)
@@ -119,8 +119,8 @@ module _ (log : List ℕ) (p : ℕ) (r : Reader) (a : At log p r) (w rest : List
   unfolding end_of bytes_of
   sees_torn_on [] k tail l d h = sees_torn k tail d h tt
   sees_torn_on (g ∷ gs) k tail l d h =
-      bad unknown_type (ap (λ (y : FrameRead). y.answer) read-torn) tt
-      (subst (λ (y : FrameRead). Sees log Any y.reader (map event (g ∷ gs))) (sym read-torn)
+      bad unknown_type (ap (λ (y : FrameRead). y.answer) read_torn) tt
+      (subst (λ (y : FrameRead). Sees log Any y.reader (map event (g ∷ gs))) (sym read_torn)
       (sees_one log (beyond p) (spoilt_at p) g gs (zeros k ++ tail) (map event gs) arrives l.0 d (omega (arith, end_ge (after (beyond p) g) gs))
       (λ b. sees_rest log gs (after (beyond p) g) (behind (beyond p + padding (beyond p)) (length g.content)) k tail b l.1
       (next_there log (beyond p) g gs (zeros k ++ tail) l.0 d) h (λ r' b'. tt))))

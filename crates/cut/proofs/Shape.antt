@@ -114,9 +114,9 @@ split_frames c p (f ∷ fs) l = go (stored c f) refl (split_frames c (after p f)
 -- ---- the log
 
 module _ (n c : ℕ) (before : List (List ℕ)) (xs tail : List ℕ) (behind : place_all 0 before ≤ c) where
-  frames-before : frames_all 0 (before ++ (xs ∷ [])) ≡ frames_all 0 before ++ frames_of (place_all 0 before) xs
+  frames_before : frames_all 0 (before ++ (xs ∷ [])) ≡ frames_all 0 before ++ frames_of (place_all 0 before) xs
   unfolding frames_all
-  frames-before =
+  frames_before =
       all_append 0 before (xs ∷ [])
       ∙ ap (λ (fs : List Frame). frames_all 0 before ++ fs) (append-nil (frames_of (place_all 0 before) xs))
 
@@ -124,12 +124,12 @@ module _ (n c : ℕ) (before : List (List ℕ)) (xs tail : List ℕ) (behind : p
   unfolding place_all
   place-before = place-append 0 before (xs ∷ [])
 
-  laid-parts : laid n (before ++ (xs ∷ []))
+  laid_parts : laid n (before ++ (xs ∷ []))
       ≡ bytes_of (frames_all 0 before) ++ (bytes_of (frames_of (place_all 0 before) xs) ++ zeros (n * 32768 - place_after (place_all 0 before) xs))
   unfolding laid
-  laid-parts =
+  laid_parts =
       ap₂ (λ (a : List ℕ) (q : ℕ). a ++ zeros (n * 32768 - q))
-      (written_frames 0 (before ++ (xs ∷ [])) ∙ ap bytes_of frames-before ∙ bytes_append (frames_all 0 before) (frames_of (place_all 0 before) xs)) place-before
+      (written_frames 0 (before ++ (xs ∷ [])) ∙ ap bytes_of frames_before ∙ bytes_append (frames_all 0 before) (frames_of (place_all 0 before) xs)) place-before
       ∙ append_assoc (bytes_of (frames_all 0 before)) (bytes_of (frames_of (place_all 0 before) xs)) (zeros (n * 32768 - place_after (place_all 0 before) xs))
 
   pub cut_log_lem : cut_log n before xs c ++ tail
@@ -137,7 +137,7 @@ module _ (n c : ℕ) (before : List (List ℕ)) (xs tail : List ℕ) (behind : p
   unfolding cut_log
   cut_log_lem =
       ap (λ (s : List ℕ). s ++ tail)
-      (ap (cut_at c) laid-parts
+      (ap (cut_at c) laid_parts
       ∙ cut_append c a (b ++ zeros k)
       ∙ ap₂ (λ (u v : List ℕ). u ++ v) (cut_all c a (omega (arith, len)))
       (ap (λ (m : ℕ). cut_at m (b ++ zeros k)) q ∙ cut_append (c - place_all 0 before) b (zeros k)

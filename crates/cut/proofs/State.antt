@@ -121,57 +121,57 @@ module _ (n limit c : ℕ) (before : List (List ℕ)) (xs tail : List ℕ) (h : 
 
   -- the first frame that does not count as stored
   module _ (b : Broken c (place_all 0 before) (frames_of (place_all 0 before) xs)) where
-    before-it : List Frame
-    before-it = frames_all 0 before ++ b.pre
+    before_it : List Frame
+    before_it = frames_all 0 before ++ b.pre
 
     e : ℕ
-    e = end_of 0 before-it
+    e = end_of 0 before_it
 
     k : ℕ
     k = length (bytes_of b.post) + (n * 32768 - place_after (place_all 0 before) xs)
 
-    e-is : e ≡ end_of (place_all 0 before) b.pre
-    unfolding e before-it
-    e-is = end_append 0 (frames_all 0 before) b.pre ∙ ap (λ (i : ℕ). end_of i b.pre) (end_all 0 before)
+    e_is : e ≡ end_of (place_all 0 before) b.pre
+    unfolding e before_it
+    e_is = end_append 0 (frames_all 0 before) b.pre ∙ ap (λ (i : ℕ). end_of i b.pre) (end_all 0 before)
 
-    laid-p : Laid (place_all 0 before) (b.pre ++ (b.at ∷ b.post))
-    laid-p = subst (Laid (place_all 0 before)) b.split (owned (place_all 0 before) xs).stands
+    laid_p : Laid (place_all 0 before) (b.pre ++ (b.at ∷ b.post))
+    laid_p = subst (Laid (place_all 0 before)) b.split (owned (place_all 0 before) xs).stands
 
-    laid-all-it : Laid 0 before-it
-    unfolding before-it
-    laid-all-it =
+    laid_all_it : Laid 0 before_it
+    unfolding before_it
+    laid_all_it =
         laid-append 0 (frames_all 0 before) b.pre (laid_all 0 before)
-        (subst (λ (i : ℕ). Laid i b.pre) (sym (end_all 0 before)) (laid-left (place_all 0 before) b.pre (b.at ∷ b.post) laid-p))
+        (subst (λ (i : ℕ). Laid i b.pre) (sym (end_all 0 before)) (laid-left (place_all 0 before) b.pre (b.at ∷ b.post) laid_p))
 
-    behind-it : Laid e (b.at ∷ b.post)
-    behind-it = subst (λ (i : ℕ). Laid i (b.at ∷ b.post)) (sym e-is) (laid_right (place_all 0 before) b.pre (b.at ∷ b.post) laid-p)
+    behind_it : Laid e (b.at ∷ b.post)
+    behind_it = subst (λ (i : ℕ). Laid i (b.at ∷ b.post)) (sym e_is) (laid_right (place_all 0 before) b.pre (b.at ∷ b.post) laid_p)
 
-    stands-it : Stands e b.at
-    stands-it = behind-it.0
+    stands_it : Stands e b.at
+    stands_it = behind_it.0
 
-    total-it : after e b.at + k ≡ n * 32768
+    total_it : after e b.at + k ≡ n * 32768
     unfolding end_of k
-    total-it =
+    total_it =
         omega (
           arith,
           h.room,
           (owned (place_all 0 before) xs).ends_at,
           ap (end_of (place_all 0 before)) b.split,
           end_append (place_all 0 before) b.pre (b.at ∷ b.post),
-          ap (λ (i : ℕ). end_of (after i b.at) b.post) e-is,
-          length_bytes (after e b.at) b.post behind-it.1,
+          ap (λ (i : ℕ). end_of (after i b.at) b.post) e_is,
+          length_bytes (after e b.at) b.post behind_it.1,
         )
 
-    log-it : cut_log n before xs c ++ tail ≡ bytes_of before-it ++ (zeros (padding e) ++ (remains c b.at ++ (zeros k ++ tail)))
-    unfolding before-it k
-    log-it =
+    log_it : cut_log n before xs c ++ tail ≡ bytes_of before_it ++ (zeros (padding e) ++ (remains c b.at ++ (zeros k ++ tail)))
+    unfolding before_it k
+    log_it =
         cut_log_lem n c before xs tail h.behind
         ∙ ap (λ (s : List ℕ). bytes_of (frames_all 0 before) ++ (s ++ (zeros m ++ tail))) b.bytes
         ∙ ap (λ (s : List ℕ). bytes_of (frames_all 0 before) ++ s) (append_assoc (bytes_of b.pre) (zeros b.at.padding ++ (remains c b.at ++ zeros j)) (zeros m ++ tail))
         ∙ sym (append_assoc (bytes_of (frames_all 0 before)) (bytes_of b.pre) ((zeros b.at.padding ++ (remains c b.at ++ zeros j)) ++ (zeros m ++ tail)))
         ∙ ap₂ (λ (u v : List ℕ). u ++ v) (sym (bytes_append (frames_all 0 before) b.pre))
         (append_assoc (zeros b.at.padding) (remains c b.at ++ zeros j) (zeros m ++ tail)
-        ∙ ap₂ (λ (i : ℕ) (v : List ℕ). zeros i ++ v) stands-it.pads
+        ∙ ap₂ (λ (i : ℕ) (v : List ℕ). zeros i ++ v) stands_it.pads
         (append_assoc (remains c b.at) (zeros j) (zeros m ++ tail)
         ∙ ap (λ (v : List ℕ). remains c b.at ++ v)
         (sym (append_assoc (zeros j) (zeros m) tail) ∙ ap (λ (v : List ℕ). v ++ tail) (replicate-append-replicate j m 0))))
@@ -182,25 +182,25 @@ module _ (n limit c : ℕ) (before : List (List ℕ)) (xs tail : List ℕ) (h : 
         m : ℕ
         m = n * 32768 - place_after (place_all 0 before) xs
 
-    puts-it : (m : ℕ) → Fits m before xs → (es : List Event) → Restarts m es → assemble m (map event before-it ++ es) idle ≡ map whole before ++ assemble m es idle
-    unfolding before-it
-    puts-it m g es on = puts_broken m before xs es g.0 g.1 b.pre b.at b.post b.split on
+    puts_it : (m : ℕ) → Fits m before xs → (es : List Event) → Restarts m es → assemble m (map event before_it ++ es) idle ≡ map whole before ++ assemble m es idle
+    unfolding before_it
+    puts_it m g es on = puts_broken m before xs es g.0 g.1 b.pre b.at b.post b.split on
 
-    whole-header : b.at.start + 7 ≤ c → Headed n before xs tail (cut_log n before xs c ++ tail)
+    whole_header : b.at.start + 7 ≤ c → Headed n before xs tail (cut_log n before xs c ++ tail)
     unfolding e
-    whole-header g = record {
-      frames = before-it;
+    whole_header g = record {
+      frames = before_it;
       at = b.at;
       sum = sum_bytes c b.at;
       datas = cut_data c b.at;
       k = k;
-      stands = laid-all-it;
+      stands = laid_all_it;
       four = length-le_bytes 4 (crc32 (type_number b.at.kind ∷ b.at.content));
-      fits = omega (arith, stands-it.fits, size);
+      fits = omega (arith, stands_it.fits, size);
       told = λ q. b.unfit h.unfit b.not_stored g (q ∙ le-sum (type_number b.at.kind ∷ b.at.content));
-      is = log-it ∙ ap (λ (s : List ℕ). bytes_of before-it ++ (zeros (padding e) ++ s)) (headed_bytes c b.at (zeros k ++ tail) g);
-      total = omega (arith, total-it, size);
-      puts = puts-it;
+      is = log_it ∙ ap (λ (s : List ℕ). bytes_of before_it ++ (zeros (padding e) ++ s)) (headed_bytes c b.at (zeros k ++ tail) g);
+      total = omega (arith, total_it, size);
+      puts = puts_it;
     }
       where
         size : length (cut_data c b.at) ≡ length b.at.content
@@ -209,50 +209,50 @@ module _ (n limit c : ℕ) (before : List (List ℕ)) (xs tail : List ℕ) (h : 
     no_bytes : all_zero (take (c - b.at.start) (frame_bytes b.at.kind b.at.content)) ≡ true → Clean n before xs tail (cut_log n before xs c ++ tail) nothing
     unfolding e given covered
     no_bytes z = record {
-      frames = before-it;
+      frames = before_it;
       k = padding e + (7 + length b.at.content + k);
-      stands = laid-all-it;
+      stands = laid_all_it;
       is =
-          log-it
-          ∙ ap (λ (s : List ℕ). bytes_of before-it ++ (zeros (padding e) ++ (s ++ (zeros k ++ tail)))) (nothing_bytes c b.at z)
-          ∙ ap (λ (s : List ℕ). bytes_of before-it ++ s)
+          log_it
+          ∙ ap (λ (s : List ℕ). bytes_of before_it ++ (zeros (padding e) ++ (s ++ (zeros k ++ tail)))) (nothing_bytes c b.at z)
+          ∙ ap (λ (s : List ℕ). bytes_of before_it ++ s)
           (ap (λ (s : List ℕ). zeros (padding e) ++ s) (joined (7 + length b.at.content) k) ∙ joined (padding e) (7 + length b.at.content + k));
-      total = omega (arith, total-it);
+      total = omega (arith, total_it);
       plain = λ rs. refl;
-      puts = puts-it;
+      puts = puts_it;
     }
       where
         joined : (i j : ℕ) → zeros i ++ (zeros j ++ tail) ≡ zeros (i + j) ++ tail
         joined i j = sym (append_assoc (zeros i) (zeros j) tail) ∙ ap (λ (s : List ℕ). s ++ tail) (replicate-append-replicate i j 0)
 
-    part-header : c < b.at.start + 7 → all_zero (take (c - b.at.start) (frame_bytes b.at.kind b.at.content)) ≡ false
+    part_header : c < b.at.start + 7 → all_zero (take (c - b.at.start) (frame_bytes b.at.kind b.at.content)) ≡ false
         → Torn n before xs tail (cut_log n before xs c ++ tail)
     unfolding e
-    part-header g z = record {
-      frames = before-it;
+    part_header g z = record {
+      frames = before_it;
       seven = part c b.at;
       k = length b.at.content + k;
-      stands = laid-all-it;
+      stands = laid_all_it;
       size = part_length c b.at;
       some = part_some c b.at g z;
       untyped = part_type c b.at g;
       is =
-          log-it
-          ∙ ap (λ (s : List ℕ). bytes_of before-it ++ (zeros (padding e) ++ s))
+          log_it
+          ∙ ap (λ (s : List ℕ). bytes_of before_it ++ (zeros (padding e) ++ s))
           (ap (λ (s : List ℕ). s ++ (zeros k ++ tail)) (torn_bytes c b.at g)
           ∙ append_assoc (part c b.at) (zeros (length b.at.content)) (zeros k ++ tail)
           ∙ ap (λ (s : List ℕ). part c b.at ++ s)
           (sym (append_assoc (zeros (length b.at.content)) (zeros k) tail) ∙ ap (λ (s : List ℕ). s ++ tail) (replicate-append-replicate (length b.at.content) k 0)));
-      total = omega (arith, total-it);
-      puts = puts-it;
+      total = omega (arith, total_it);
+      puts = puts_it;
     }
 
-    broken-state : (x y : Bool) → leb (b.at.start + 7) c ≡ x → all_zero (take (c - b.at.start) (frame_bytes b.at.kind b.at.content)) ≡ y
+    broken_state : (x y : Bool) → leb (b.at.start + 7) c ≡ x → all_zero (take (c - b.at.start) (frame_bytes b.at.kind b.at.content)) ≡ y
         → State n before xs tail (cut_log n before xs c ++ tail) (left_when x y b.at.start)
-    unfolding left_when part-header e
-    broken-state true y ex ey = is_headed (whole-header (leb-true (b.at.start + 7) c ex)) refl
-    broken-state false true ex ey = is_clean (no_bytes ey)
-    broken-state false false ex ey = is_torn (part-header (leb-false (b.at.start + 7) c ex) ey) (ap torn stands-it.starts)
+    unfolding left_when part_header e
+    broken_state true y ex ey = is_headed (whole_header (leb-true (b.at.start + 7) c ex)) refl
+    broken_state false true ex ey = is_clean (no_bytes ey)
+    broken_state false false ex ey = is_torn (part_header (leb-false (b.at.start + 7) c ex) ey) (ap torn stands_it.starts)
 
   pub state : State n before xs tail (cut_log n before xs c ++ tail) (left c (frames_of (place_all 0 before) xs))
   state = go (split_frames c (place_all 0 before) (frames_of (place_all 0 before) xs) (owned (place_all 0 before) xs).stands)
@@ -261,4 +261,4 @@ module _ (n limit c : ℕ) (before : List (List ℕ)) (xs tail : List ℕ) (h : 
       go (unbroken u) = subst (State n before xs tail (cut_log n before xs c ++ tail)) (sym u.here) (is_clean (all_stored u))
       go (broken b) =
           subst (State n before xs tail (cut_log n before xs c ++ tail)) (sym b.here)
-          (broken-state b (leb (b.at.start + 7) c) (all_zero (take (c - b.at.start) (frame_bytes b.at.kind b.at.content))) refl refl)
+          (broken_state b (leb (b.at.start + 7) c) (all_zero (take (c - b.at.start) (frame_bytes b.at.kind b.at.content))) refl refl)

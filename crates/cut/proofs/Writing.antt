@@ -56,10 +56,10 @@ module _ (front tail : List ℕ) (e k : ℕ) (len : length front ≡ e) where
   log_length : length (front ++ (zeros k ++ tail)) ≡ e + k + length tail
   log_length = omega (arith, length-append front (zeros k ++ tail), length-append (zeros k) tail, length-replicate {A = ℕ} k 0)
 
-  put-at : (rs : List (List ℕ)) → place_all e rs ≤ e + k
+  put_at : (rs : List (List ℕ)) → place_all e rs ≤ e + k
       → put (front ++ (zeros k ++ tail)) e (records_bytes e rs) ≡ front ++ (bytes_of (frames_all e rs) ++ (zeros (e + k - place_all e rs) ++ tail))
   unfolding put
-  put-at rs h =
+  put_at rs h =
       ap₂ (λ (a b : List ℕ). a ++ (records_bytes e rs ++ b)) (take_at front (zeros k ++ tail) e len)
       (sym (drop-drop (length (records_bytes e rs)) e (front ++ (zeros k ++ tail)))
       ∙ ap (drop (length (records_bytes e rs))) (drop_at front (zeros k ++ tail) e len)
@@ -78,18 +78,18 @@ module _ (front tail : List ℕ) (e k : ℕ) (len : length front ≡ e) where
         ap length (written_frames e rs),
       )
 
-  by-put : (rs : List (List ℕ)) (after : List ℕ) → place_all e rs ≤ e + k → after ≡ put (front ++ (zeros k ++ tail)) e (records_bytes e rs) → Written front e k tail rs after
-  by-put rs after h g = record { is = g ∙ put-at rs h; inside = h; size = ap length (g ∙ put-at rs h) ∙ written-length rs h }
+  by_put : (rs : List (List ℕ)) (after : List ℕ) → place_all e rs ≤ e + k → after ≡ put (front ++ (zeros k ++ tail)) e (records_bytes e rs) → Written front e k tail rs after
+  by_put rs after h g = record { is = g ∙ put_at rs h; inside = h; size = ap length (g ∙ put_at rs h) ∙ written-length rs h }
 
   -- at e itself
-  written-here : (rs : List (List ℕ)) → place_all e rs ≤ e + k → Written front e k tail rs (write_all (front ++ (zeros k ++ tail)) e rs)
-  written-here rs h = by-put rs (write_all (front ++ (zeros k ++ tail)) e rs) h (write_all_lem rs (front ++ (zeros k ++ tail)) e (omega (arith, log_length)) (omega (arith, log_length)))
+  written_here : (rs : List (List ℕ)) → place_all e rs ≤ e + k → Written front e k tail rs (write_all (front ++ (zeros k ++ tail)) e rs)
+  written_here rs h = by_put rs (write_all (front ++ (zeros k ++ tail)) e rs) h (write_all_lem rs (front ++ (zeros k ++ tail)) e (omega (arith, log_length)) (omega (arith, log_length)))
 
   -- after its padding
-  written-padded : (ys : List ℕ) (rs : List (List ℕ)) → place_all (e + padding e) (ys ∷ rs) ≤ e + k
+  written_padded : (ys : List ℕ) (rs : List (List ℕ)) → place_all (e + padding e) (ys ∷ rs) ≤ e + k
       → Written front e k tail (ys ∷ rs) (write_all (front ++ (zeros k ++ tail)) (e + padding e) (ys ∷ rs))
-  written-padded ys rs h =
-      by-put (ys ∷ rs) (write_all (front ++ (zeros k ++ tail)) (e + padding e) (ys ∷ rs)) (omega (arith, (same_records e ys rs).1))
+  written_padded ys rs h =
+      by_put (ys ∷ rs) (write_all (front ++ (zeros k ++ tail)) (e + padding e) (ys ∷ rs)) (omega (arith, (same_records e ys rs).1))
       (write_all_lem (ys ∷ rs) (front ++ (zeros k ++ tail)) (e + padding e) (omega (arith, log_length, low)) (omega (arith, log_length))
       ∙ ap₂ (λ (l : List ℕ) (i : ℕ). put l i (records_bytes (e + padding e) (ys ∷ rs))) (sym here) (ap (λ (i : ℕ). e + i) (sym (length-replicate {A = ℕ} (padding e) 0)))
       ∙ put-put (front ++ (zeros k ++ tail)) e (zeros (padding e)) (records_bytes (e + padding e) (ys ∷ rs))
@@ -117,8 +117,8 @@ module _ (front tail : List ℕ) (e k : ℕ) (len : length front ≡ e) where
               parts = ap (λ (s : List ℕ). s ++ tail) (sym (replicate-append-replicate (padding e) (k - padding e) 0)) ∙ append_assoc (zeros (padding e)) (zeros (k - padding e)) tail
 
   pub written : (rs : List (List ℕ)) (q : ℕ) → (q ≡ e) ⊎ (q ≡ e + padding e) → place_all q rs ≤ e + k → Written front e k tail rs (write_all (front ++ (zeros k ++ tail)) q rs)
-  written rs q (inl g) h = subst (λ (i : ℕ). Written front e k tail rs (write_all (front ++ (zeros k ++ tail)) i rs)) (sym g) (written-here rs (omega (arith, ap (λ (i : ℕ). place_all i rs) g)))
-  written [] q (inr g) h = unfold write_all in written-here [] (unfold place_all in omega arith)
+  written rs q (inl g) h = subst (λ (i : ℕ). Written front e k tail rs (write_all (front ++ (zeros k ++ tail)) i rs)) (sym g) (written_here rs (omega (arith, ap (λ (i : ℕ). place_all i rs) g)))
+  written [] q (inr g) h = unfold write_all in written_here [] (unfold place_all in omega arith)
   written (ys ∷ rs) q (inr g) h =
       subst (λ (i : ℕ). Written front e k tail (ys ∷ rs) (write_all (front ++ (zeros k ++ tail)) i (ys ∷ rs))) (sym g)
-      (written-padded ys rs (omega (arith, ap (λ (i : ℕ). place_all i (ys ∷ rs)) g)))
+      (written_padded ys rs (omega (arith, ap (λ (i : ℕ). place_all i (ys ∷ rs)) g)))

@@ -88,8 +88,8 @@ module _ (s s' : State) (ls : List Listed) (l : Listed) (w : Standing s ls) (v :
   q : ℕ
   q = resume (take c s'.log ++ drop c s.log) limit
 
-  formed-parts : Formed (records_of ls) × WellFormed l.written
-  formed-parts = formed s s' ls l w v same c limit low high unfit none
+  formed_parts : Formed (records_of ls) × WellFormed l.written
+  formed_parts = formed s s' ls l w v same c limit low high unfit none
 
   size : length (take c s'.log ++ drop c s.log) ≡ w.number * 32768 + length w.tail
   size = cut_length s s' ls l w v same c limit low high unfit none
@@ -100,7 +100,7 @@ module _ (s s' : State) (ls : List Listed) (l : Listed) (w : Standing s ls) (v :
   arr : Arrangement m qs
   arr =
       records-arranged m [] qs (records_of ls ++ kept_of (left_by c l.frames) l.written)
-      (formed_kept (records_of ls) (left_by c l.frames) l.written formed-parts.0 formed-parts.1) (none_arranged m) replayed
+      (formed_kept (records_of ls) (left_by c l.frames) l.written formed_parts.0 formed_parts.1) (none_arranged m) replayed
 
   start : Machine
   start = record { records = []; queues = qs; place = resume (take c s'.log ++ drop c s.log) limit }
@@ -132,10 +132,10 @@ module _ (s s' : State) (ls : List Listed) (l : Listed) (w : Standing s ls) (v :
     records_are : (machine_from start h₂).records ≡ gone.list
     records_are = ap (λ (x : Machine). x.records) gone.machine_is
 
-    reading-on : readings s₂.log again
+    reading_on : readings s₂.log again
         ≡ map gave_record (records_of ls) ++ (answered_after w.number (left_by c l.frames) l.written (records_of gone.list) ++ (map gave_record (records_of gone.list) ++ (gave_end ∷ [])))
     unfolding answer_of cut q
-    reading-on =
+    reading_on =
         readings_same s₂.log again (log_legal s₂.log w.number (length w.tail) (g.same_length ∙ size) w.short w.some w.most)
         ∙ ap (λ (log : List ℕ). map answer_of (read_all log again)) g.log_is
         ∙ ap (λ (log : List ℕ). map answer_of (read_all (write_all log (resume log limit) after) again)) is
@@ -144,10 +144,10 @@ module _ (s s' : State) (ls : List Listed) (l : Listed) (w : Standing s ls) (v :
         (subst (λ (log : List ℕ). place_all (resume log limit) after ≤ w.number * 32768) is g.room)
         fits.0 fits.1 (each_limit again gone.list (subst (NoneLonger again) records_are none₂)))
         ∙ map-append answer_of (map whole (encodings ls)) (given_after w.number left_is xs after ++ (map whole after ++ (end_of_log ∷ [])))
-        ∙ ap₂ (λ (a b : List ReadAnswer). a ++ b) (records-given (records_of ls) formed-parts.0)
+        ∙ ap₂ (λ (a b : List ReadAnswer). a ++ b) (records-given (records_of ls) formed_parts.0)
         (map-append answer_of (given_after w.number left_is xs after) (map whole after ++ (end_of_log ∷ []))
         ∙ ap₂ (λ (a b : List ReadAnswer). a ++ b)
-        (answers_after w.number left_is l.written (records_of gone.list) formed-parts.1
+        (answers_after w.number left_is l.written (records_of gone.list) formed_parts.1
         ∙ ap (λ (fs : List Frame). answered_after w.number (left_by c fs) l.written (records_of gone.list)) (sym (own s s' ls l w v same c limit low high unfit none)))
         (map-append answer_of (map whole after) (end_of_log ∷ [])
         ∙ ap (λ (a : List ReadAnswer). a ++ (gave_end ∷ [])) (records-given (records_of gone.list) g.formed)))
@@ -170,24 +170,24 @@ module _ (s s' : State) (ls : List Listed) (l : Listed) (w : Standing s ls) (v :
         fits : Each (λ ys. length ys ≤ again) (encodings ls) × (length (encode l.written) ≤ again)
         fits = limits s s' ls l w v same c again low high unfit none₁
 
-    replay-on : replay_of s₂.log s₂.capacities again ≡ left s₂.queues
+    replay_on : replay_of s₂.log s₂.capacities again ≡ left s₂.queues
     unfolding replay_of and_then
-    replay-on =
+    replay_on =
         ap (λ (x : Capacities). replay_answers x [] (readings s₂.log again)) gone.going.same_room
-        ∙ ap (replay_answers m []) reading-on
+        ∙ ap (replay_answers m []) reading_on
         ∙ replays_after m w.number (records_of ls) (left_by c l.frames) l.written (records_of gone.list)
         ∙ ap (replay_records m []) (sym (append_assoc (records_of ls) (kept_of (left_by c l.frames) l.written) (records_of gone.list)))
         ∙ records-append m [] (records_of ls ++ kept_of (left_by c l.frames) l.written) (records_of gone.list)
         ∙ ap (λ (o : Outcome). and_then o (λ (x : List Queue). replay_records m x (records_of gone.list))) replayed
         ∙ gone.going.replayed
 
-    after-calls : StatesAfterCalls (records_of ls) l.written (left_by c l.frames) (records_of (machine_from start h₂).records) s₂ again
-    after-calls = record {
+    after_calls : StatesAfterCalls (records_of ls) l.written (left_by c l.frames) (records_of (machine_from start h₂).records) s₂ again
+    after_calls = record {
       reading =
-          reading-on
+          reading_on
           ∙ ap₂ (λ (n : ℕ) (ms : List Listed). map gave_record (records_of ls)
           ++ (answered_after n (left_by c l.frames) l.written (records_of ms) ++ (map gave_record (records_of ms) ++ (gave_end ∷ [])))) (sym gone.going.size) (sym records_are);
-      replay = replay-on;
+      replay = replay_on;
     }
 
 pub states_power_cut_on : StatesPowerCutOn
@@ -196,5 +196,5 @@ states_power_cut_on h s r k l wr c limit again low high unfit none none₁ m qs 
     let w = known h s r k l wr in
     let put_in : NoneLonger limit (w.list ++ (l ∷ [])) = subst (λ (ms : List Listed). NoneLonger limit (ms ++ (l ∷ []))) w.records_is none in
     subst (λ (ms : List Listed). StatesAfterCalls (records_of ms) l.written (left_by c l.frames) (records_of (records_since (cut_of s k c) qs limit h₂)) s₂ again) (sym w.records_is)
-    (after-calls s (call_of s k).state w.list l w.stands w.stands_after w.same c limit low high unfit put_in m qs e h₂ s₂ since again
+    (after_calls s (call_of s k).state w.list l w.stands w.stands_after w.same c limit low high unfit put_in m qs e h₂ s₂ since again
     (subst (λ (ms : List Listed). NoneLonger again (ms ++ (l ∷ []))) w.records_is none₁) none₂)

@@ -115,12 +115,12 @@ module _ (s s' : State) (ls : List Listed) (l : Listed) (w : Standing s ls) (v :
   parts : encodings (ls ++ (l ∷ [])) ≡ encodings ls ++ (encode l.written ∷ [])
   parts = encodings_append ls (l ∷ [])
 
-  place-parts : place_all 0 (encodings (ls ++ (l ∷ []))) ≡ place_after (place_all 0 (encodings ls)) (encode l.written)
+  place_parts : place_all 0 (encodings (ls ++ (l ∷ []))) ≡ place_after (place_all 0 (encodings ls)) (encode l.written)
   unfolding place_all
-  place-parts = ap (place_all 0) parts ∙ place-append 0 (encodings ls) (encode l.written ∷ [])
+  place_parts = ap (place_all 0) parts ∙ place-append 0 (encodings ls) (encode l.written ∷ [])
 
   pub room : place_after (place_all 0 (encodings ls)) (encode l.written) ≤ w.number * 32768
-  room = omega (arith, v.room, place-parts, number_same)
+  room = omega (arith, v.room, place_parts, number_same)
 
   pub own : l.frames ≡ frames_of (place_all 0 (encodings ls)) (encode l.written)
   own = owns_last 0 ls l v.owns
@@ -146,7 +146,7 @@ module _ (s s' : State) (ls : List Listed) (l : Listed) (w : Standing s ls) (v :
   cut_is =
       ap₂ (λ (a b : List ℕ). take c a ++ drop c b)
       (v.log_is ∙ ap₂ (λ (n : ℕ) (rs : List (List ℕ)). laid n rs ++ v.tail) number_same parts) w.log_is
-      ∙ cut_of_writing w.number c (encodings ls) (encode l.written) w.tail v.tail room (omega (arith, w.place_is)) (omega (arith, v.place_is, place-parts))
+      ∙ cut_of_writing w.number c (encodings ls) (encode l.written) w.tail v.tail room (omega (arith, w.place_is)) (omega (arith, v.place_is, place_parts))
 
   pub cut_length : length (take c s'.log ++ drop c s.log) ≡ w.number * 32768 + length w.tail
   cut_length = ap length cut_is ∙ cut_size w.number limit c (encodings ls) (encode l.written) w.tail cutting
@@ -173,8 +173,8 @@ module _ (s s' : State) (ls : List Listed) (l : Listed) (w : Standing s ls) (v :
 module _ (s : State) (ls : List Listed) (w : Standing s ls) (k : Call) (l : Listed) (v : Standing (call_of s k).state (ls ++ (l ∷ [])))
     (same : length (call_of s k).state.log ≡ length s.log) (c limit : ℕ) (low : s.place ≤ c) (high : c ≤ (call_of s k).state.place)
     (unfit : Unfit c l.frames) (none : NoneLonger limit (ls ++ (l ∷ []))) where
-  after-cut : StatesAfterCut s k (records_of ls) l.written (left_by c l.frames) (cut_of s k c) limit
-  after-cut = record {
+  after_cut : StatesAfterCut s k (records_of ls) l.written (left_by c l.frames) (cut_of s k c) limit
+  after_cut = record {
     reading = reading_cut s (call_of s k).state ls l w v same c limit low high unfit none;
     replay = again;
     replay_before = λ e.
@@ -210,17 +210,17 @@ known h s r k l wr = record { list = (follows r).list; records_is = records_is; 
         ∙ ap (λ (m : Machine). (machine_call m k).records) (sym (follows r).machine_is)
         ∙ wr.more ∙ ap (λ (ms : List Listed). ms ++ (l ∷ [])) records_is
 
-    done-is : (call_of s k).state ≡ (done_of s k).state
-    done-is = ap (λ (x : Returned). x.state) (call_done s k wr.done)
+    done_is : (call_of s k).state ≡ (done_of s k).state
+    done_is = ap (λ (x : Returned). x.state) (call_done s k wr.done)
 
     v : Standing (call_of s k).state ((follows r).list ++ (l ∷ []))
-    v = subst (λ (x : State). Standing x ((follows r).list ++ (l ∷ []))) (sym done-is) (subst (Standing (done_of s k).state) list_is step.stands)
+    v = subst (λ (x : State). Standing x ((follows r).list ++ (l ∷ []))) (sym done_is) (subst (Standing (done_of s k).state) list_is step.stands)
 
     same : length (call_of s k).state.log ≡ length s.log
-    same = ap (λ (x : State). length x.log) done-is ∙ done_length s k wr.done
+    same = ap (λ (x : State). length x.log) done_is ∙ done_length s k wr.done
 
 pub states_power_cut : StatesPowerCut
 states_power_cut h s r k l wr c limit low high unfit none =
     let w = known h s r k l wr in
     subst (λ (ms : List Listed). StatesAfterCut s k (records_of ms) l.written (left_by c l.frames) (cut_of s k c) limit) (sym w.records_is)
-    (after-cut s w.list w.stands k l w.stands_after w.same c limit low high unfit (subst (λ (ms : List Listed). NoneLonger limit (ms ++ (l ∷ []))) w.records_is none))
+    (after_cut s w.list w.stands k l w.stands_after w.same c limit low high unfit (subst (λ (ms : List Listed). NoneLonger limit (ms ++ (l ∷ []))) w.records_is none))

@@ -98,11 +98,11 @@ module _ (log : List ℕ) (q n : ℕ) (c : Capacities) (qs₀ : List Queue) (arr
   arranged s ls g = subst (λ (m : Capacities). Arrangement m s.queues) (sym g.same_room) (records-arranged c qs₀ s.queues (records_of ls) g.formed arr g.replayed)
 
   -- a call that is done
-  on-done : (s x : State) (ls : List Listed) (go : List Listed → Machine) → Going log q n c qs₀ s ls → Taken s x go → Gone log q n c qs₀ x (go ls)
-  on-done s x ls go g (wrote_one r qs fits f w e xe me) =
+  on_done : (s x : State) (ls : List Listed) (go : List Listed → Machine) → Going log q n c qs₀ s ls → Taken s x go → Gone log q n c qs₀ x (go ls)
+  on_done s x ls go g (wrote_one r qs fits f w e xe me) =
       subst (λ (y : State). Gone log q n c qs₀ y (go ls)) (sym xe)
       (record { list = ls ++ (listed s r ∷ []); machine_is = me ls ∙ (unfold puts logged in refl); going = one_more_lem s ls g r qs f w.in_log e })
-  on-done s x ls go g (wrote_none xe me) = subst (λ (y : State). Gone log q n c qs₀ y (go ls)) (sym xe) (record { list = ls; machine_is = me ls; going = g })
+  on_done s x ls go g (wrote_none xe me) = subst (λ (y : State). Gone log q n c qs₀ y (go ls)) (sym xe) (record { list = ls; machine_is = me ls; going = g })
 
   -- a call, refused or not
   step_by_lem : (s : State) (m : Machine) → Gone log q n c qs₀ s m → (k : Call) → Typed k → (i : ℕ) → refusal_of s k ≡ i
@@ -111,7 +111,7 @@ module _ (log : List ℕ) (q n : ℕ) (c : Capacities) (qs₀ : List Queue) (arr
   step_by_lem s m w k t zero z =
       subst (λ (i : ℕ). Gone log q n c qs₀ (done_of s k).state (cond (not (eqb i 0)) m (machine_call m k))) (sym (done_zero s k))
       (subst (λ (x : Machine). Gone log q n c qs₀ (done_of s k).state (machine_call x k)) (sym w.machine_is)
-      (on-done s (done_of s k).state w.list (λ ms. machine_call (machine_of s ms) k) w.going (taken s (arranged s w.list w.going) w.going.sound k t z)))
+      (on_done s (done_of s k).state w.list (λ ms. machine_call (machine_of s ms) k) w.going (taken s (arranged s w.list w.going) w.going.sound k t z)))
   step_by_lem s m w k t (suc i) z =
       subst (λ (b : Bool). Gone log q n c qs₀ s (cond (not b) m (machine_call m k))) (sym (ne_eqb (suc i) 0 (λ p. omega arith))) w
 

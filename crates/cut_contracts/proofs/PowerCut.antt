@@ -73,24 +73,24 @@ module _ (h : List Fed) (l : Lent) (run : Run h l) (k : Call) (a : CallAnswer) (
   means : state_of l' ≡ (call_of (state_of l) k).state
   means = call_means l l' k a wr.kept
 
-  cut-same : (c : ℕ) → cut_of (state_of l) k c ≡ cut_lent l l' c
+  cut_same : (c : ℕ) → cut_of (state_of l) k c ≡ cut_lent l l' c
   unfolding state_of
-  cut-same c = ap (λ (log : List ℕ). take c log ++ drop c l.log) (sym wr.kept.log_left)
+  cut_same c = ap (λ (log : List ℕ). take c log ++ drop c l.log) (sym wr.kept.log_left)
 
   module _ (c limit : ℕ) (low : l.place ≤ c) (high : c ≤ l'.place) (unfit : Unfit c w.frames) (few : NoneLonger limit ((machine h).records ++ (w ∷ []))) where
-    over-states : StateAfterCut (state_of l) k (records_of (machine h).records) w.written (left_by c w.frames) (cut_lent l l' c) limit
+    over_states : StateAfterCut (state_of l) k (records_of (machine h).records) w.written (left_by c w.frames) (cut_lent l l' c) limit
     unfolding state_of
-    over-states =
-        subst (λ (log : List ℕ). StateAfterCut (state_of l) k (records_of (machine h).records) w.written (left_by c w.frames) log limit) (cut-same c)
+    over_states =
+        subst (λ (log : List ℕ). StateAfterCut (state_of l) k (records_of (machine h).records) w.written (left_by c w.frames) log limit) (cut_same c)
         (states_cut h (state_of l) (run_means h l run) k w writes c limit low (omega (arith, wr.kept.place_left)) unfit few)
 
     before : kept_of (left_by c w.frames) w.written ≡ [] → replay_of (cut_lent l l' c) (capacities l.memory) limit ≡ left (meaning l.memory)
     unfolding state_of
-    before e = over-states.replay_before e
+    before e = over_states.replay_before e
 
     after : kept_of (left_by c w.frames) w.written ≡ w.written ∷ [] → replay_of (cut_lent l l' c) (capacities l'.memory) limit ≡ left (meaning l'.memory)
     unfolding state_of
-    after e = subst (λ (x : State). replay_of (cut_lent l l' c) x.capacities limit ≡ left x.queues) (sym means) (over-states.replay_after e)
+    after e = subst (λ (x : State). replay_of (cut_lent l l' c) x.capacities limit ≡ left x.queues) (sym means) (over_states.replay_after e)
 
     legal : log_refused (cut_lent l l' c) ≡ false
     legal = go (kept_cases (left_by c w.frames) w.written)
@@ -99,12 +99,12 @@ module _ (h : List Fed) (l : Lent) (run : Run h l) (k : Call) (a : CallAnswer) (
         go (inl e) = legal_by (cut_lent l l' c) (capacities l.memory) limit (meaning l.memory) (before e) (log_refused (cut_lent l l' c)) refl
         go (inr e) = legal_by (cut_lent l l' c) (capacities l'.memory) limit (meaning l'.memory) (after e) (log_refused (cut_lent l l' c)) refl
 
-    after-cut : AfterCut l l' (records_of (machine h).records) w.written (left_by c w.frames) (cut_lent l l' c) limit
-    after-cut = record {
-      reading = λ scratch gs n rs. reads_all cut scratch gs rs ∙ ap (readings cut) n ∙ over-states.reading;
+    after_cut : AfterCut l l' (records_of (machine h).records) w.written (left_by c w.frames) (cut_lent l l' c) limit
+    after_cut = record {
+      reading = λ scratch gs n rs. reads_all cut scratch gs rs ∙ ap (readings cut) n ∙ over_states.reading;
       replay = λ scratch scratch' m m' ks ks' b n long kept.
           replays_as cut scratch scratch' m m' b (queues_kept cut m ks (λ _. long) scratch scratch' m' b ks' kept) legal (replay_records (capacities m) [] (records_of (machine h).records ++ kept_of (left_by c w.frames) w.written))
-          (ap (replay_of cut (capacities m)) n ∙ over-states.replay (capacities m));
+          (ap (replay_of cut (capacities m)) n ∙ over_states.replay (capacities m));
       replay_before = λ e scratch scratch' m m' ks ks' b n f long kept.
           gives_at cut scratch scratch' m m' ks ks' b (capacities l.memory) limit (meaning l.memory) long kept n f (before e);
       replay_after = λ e scratch scratch' m m' ks ks' b n f long kept.
@@ -115,7 +115,7 @@ module _ (h : List Fed) (l : Lent) (run : Run h l) (k : Call) (a : CallAnswer) (
         cut = cut_lent l l' c
 
 pub power_cut : PowerCut
-power_cut h l run k a l' w wr c limit low high unfit few = after-cut h l run k a l' w wr c limit low high unfit few
+power_cut h l run k a l' w wr c limit low high unfit few = after_cut h l run k a l' w wr c limit low high unfit few
 
 -- ---- after reopening
 
@@ -135,11 +135,11 @@ told-left (refused n) lost lost' bytes bytes' p p' e = let z : ◌≡◌ {A = �
 told-left (left qs) lost lost' bytes bytes' p p' e = (qs, refl, cc)
 
 module _ (log scratch : List ℕ) (m : Memory) (ks : List ℕ) (l₀ : Lent) (o : Opened log scratch m ks l₀) where
-  long-opened : length m.entries ≤ length ks
-  long-opened = replayed_long log scratch l₀.scratch m l₀.memory ks l₀.largest o.lost o.lost_bytes l₀.place o.kept
+  long_opened : length m.entries ≤ length ks
+  long_opened = replayed_long log scratch l₀.scratch m l₀.memory ks l₀.largest o.lost o.lost_bytes l₀.place o.kept
 
   inner : QueuesReplayed log scratch m (replayed o.lost o.lost_bytes l₀.place) l₀.scratch l₀.memory
-  inner = queues_kept log m ks (λ _. long-opened) scratch l₀.scratch l₀.memory (replayed o.lost o.lost_bytes l₀.place) l₀.largest o.kept
+  inner = queues_kept log m ks (λ _. long_opened) scratch l₀.scratch l₀.memory (replayed o.lost o.lost_bytes l₀.place) l₀.largest o.kept
 
   -- the queues that replay gave, and the place
   found : (qs : List Queue) × (replay_of log (capacities m) (length scratch) ≡ left qs) × (l₀.place ≡ resume log (length scratch))
@@ -147,25 +147,25 @@ module _ (log scratch : List ℕ) (m : Memory) (ks : List ℕ) (l₀ : Lent) (o 
       told-left (replay_of log (capacities m) (length scratch)) o.lost (lost_in (readings log (length scratch))) o.lost_bytes (lost_bytes log (length scratch)) l₀.place (resume log (length scratch))
       (answers log scratch l₀.scratch m l₀.memory (replayed o.lost o.lost_bytes l₀.place) inner (replay_of log (capacities m) (length scratch)) refl)
 
-  legal-opened : log_refused log ≡ false
-  legal-opened = legal_by log (capacities m) (length scratch) found.0 found.1 (log_refused log) refl
+  legal_opened : log_refused log ≡ false
+  legal_opened = legal_by log (capacities m) (length scratch) found.0 found.1 (log_refused log) refl
 
-  memory-is : Leaves m l₀.memory found.0
+  memory_is : Leaves m l₀.memory found.0
   unfolding outcome_queues
-  memory-is = leaves log scratch l₀.scratch m l₀.memory (replayed o.lost o.lost_bytes l₀.place) inner legal-opened (left found.0) found.1
+  memory_is = leaves log scratch l₀.scratch m l₀.memory (replayed o.lost o.lost_bytes l₀.place) inner legal_opened (left found.0) found.1
 
-  opened-means : state_of l₀ ≡ reopened log (capacities m) found.0 (length scratch)
+  opened_means : state_of l₀ ≡ reopened log (capacities m) found.0 (length scratch)
   unfolding state_of replay_scratch
-  opened-means =
+  opened_means =
       same_state (state_of l₀) (reopened log (capacities m) found.0 (length scratch))
       (record {
         log = o.log_is;
         place = found.2;
-        queues = memory-is.means;
-        arranged = replay_arranged log scratch l₀.scratch m l₀.memory ks l₀.largest (replayed o.lost o.lost_bytes l₀.place) legal-opened long-opened o.kept;
-        capacities = memory-is.same_room;
+        queues = memory_is.means;
+        arranged = replay_arranged log scratch l₀.scratch m l₀.memory ks l₀.largest (replayed o.lost o.lost_bytes l₀.place) legal_opened long_opened o.kept;
+        capacities = memory_is.same_room;
         scratch =
-            ap length (inner.scratch_left ∙ ap (λ (b : Bool). cond b scratch (zeros (length scratch))) legal-opened) ∙ length-replicate (length scratch) 0;
+            ap length (inner.scratch_left ∙ ap (λ (b : Bool). cond b scratch (zeros (length scratch))) legal_opened) ∙ length-replicate (length scratch) 0;
       })
 
 abbrev starting : List Queue → ℕ → Machine
@@ -175,34 +175,34 @@ module _ (h : List Fed) (l : Lent) (run : Run h l) (k : Call) (a : CallAnswer) (
     (c again : ℕ) (low : l.place ≤ c) (high : c ≤ l'.place) (unfit : Unfit c w.frames) (scratch : List ℕ)
     (few₀ : NoneLonger (length scratch) ((machine h).records ++ (w ∷ []))) (few₁ : NoneLonger again ((machine h).records ++ (w ∷ [])))
     (m : Memory) (ks : List ℕ) (l₀ : Lent) (o : Opened (cut_lent l l' c) scratch m ks l₀) (h₂ : List Fed) (l₂ : Lent) (since : Since l₀ h₂ l₂) (few₂ : NoneLonger again (records_from l₀ h₂)) where
-  over-on : StateAfterCalls (records_of (machine h).records) w.written (left_by c w.frames) (records_of (records_from l₀ h₂)) (state_of l₂) again
+  over_on : StateAfterCalls (records_of (machine h).records) w.written (left_by c w.frames) (records_of (records_from l₀ h₂)) (state_of l₂) again
   unfolding state_of
-  over-on =
+  over_on =
       subst (λ (x : Machine). StateAfterCalls (records_of (machine h).records) w.written (left_by c w.frames) (records_of (machine_from x h₂).records) (state_of l₂) again) (sym same)
       (states_on h (state_of l) (run_means h l run) k w (writes h l run k a l' w wr) c (length scratch) again low (omega (arith, wr.kept.place_left)) unfit few₀ few₁
       (capacities m) qs (found log scratch m ks l₀ opened).1 h₂ (state_of l₂)
-      (subst (λ (y : State). StateSince y h₂ (state_of l₂)) (opened-means log scratch m ks l₀ opened) (since_means l₀ since))
+      (subst (λ (y : State). StateSince y h₂ (state_of l₂)) (opened_means log scratch m ks l₀ opened) (since_means l₀ since))
       (subst (λ (x : Machine). NoneLonger again (machine_from x h₂).records) same few₂))
     where
       log : List ℕ
       log = cut_of (state_of l) k c
 
       opened : Opened (cut_of (state_of l) k c) scratch m ks l₀
-      opened = subst (λ (g : List ℕ). Opened g scratch m ks l₀) (sym (cut-same h l run k a l' w wr c)) o
+      opened = subst (λ (g : List ℕ). Opened g scratch m ks l₀) (sym (cut_same h l run k a l' w wr c)) o
 
       qs : List Queue
       qs = (found log scratch m ks l₀ opened).0
 
       same : starting (meaning l₀.memory) l₀.place ≡ starting qs (resume log (length scratch))
-      same = ap₂ starting (memory-is log scratch m ks l₀ opened).means (found log scratch m ks l₀ opened).2
+      same = ap₂ starting (memory_is log scratch m ks l₀ opened).means (found log scratch m ks l₀ opened).2
 
-  after-calls : AfterCalls (records_of (machine h).records) w.written (left_by c w.frames) (records_of (records_from l₀ h₂)) l₂ again
+  after_calls : AfterCalls (records_of (machine h).records) w.written (left_by c w.frames) (records_of (records_from l₀ h₂)) l₂ again
   unfolding state_of
-  after-calls = record {
-    reading = λ t gs n rs. reads_all l₂.log t gs rs ∙ ap (readings l₂.log) n ∙ over-on.reading;
-    replay = λ t t' m₂ m₂' js js' b n f long kept. gives_at l₂.log t t' m₂ m₂' js js' b (capacities l₂.memory) again (meaning l₂.memory) long kept n f over-on.replay;
+  after_calls = record {
+    reading = λ t gs n rs. reads_all l₂.log t gs rs ∙ ap (readings l₂.log) n ∙ over_on.reading;
+    replay = λ t t' m₂ m₂' js js' b n f long kept. gives_at l₂.log t t' m₂ m₂' js js' b (capacities l₂.memory) again (meaning l₂.memory) long kept n f over_on.replay;
   }
 
 pub power_cut_on : PowerCutOn
 power_cut_on h l run k a l' w wr c again low high unfit scratch few₀ few₁ m ks l₀ o h₂ l₂ since few₂ =
-    after-calls h l run k a l' w wr c again low high unfit scratch few₀ few₁ m ks l₀ o h₂ l₂ since few₂
+    after_calls h l run k a l' w wr c again low high unfit scratch few₀ few₁ m ks l₀ o h₂ l₂ since few₂

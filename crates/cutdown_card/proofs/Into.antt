@@ -90,20 +90,20 @@ module _ (target : List ℕ) (qs : List Queue) (limit : ℕ) (target' : List ℕ
   abbrev lent : CopyLent
   lent = lent_for target qs limit
 
-  by-refusal : (n : ℕ) → copy_refusal lent ≡ n → (c : CopyAnswer) → (copy_numbers c).refusal ≡ (copied_by n lent).refusal → target' ≡ (copied_by n lent).target
+  by_refusal : (n : ℕ) → copy_refusal lent ≡ n → (c : CopyAnswer) → (copy_numbers c).refusal ≡ (copied_by n lent).refusal → target' ≡ (copied_by n lent).target
       → By n qs target (copied_as c (length target)) target'
   unfolding copy_numbers copied_by copied_as cut_by answered_by into_by
-  by-refusal zero e (copy_done end) h w = record { typed = t; answer = refl; target_left = w }
-  by-refusal zero e (copy_refused zero) h w = absurd (omega (arith, h))
-  by-refusal zero e (copy_refused (suc k)) h w = absurd (omega (arith, h))
-  by-refusal (suc n) e (copy_done end) h w = absurd (omega (arith, h))
-  by-refusal (suc n) e (copy_refused zero) h w = never (not_99 lent (e ∙ sym h))
-  by-refusal (suc n) e (copy_refused (suc k)) h w = record { typed = tt; answer = ap Refused h; target_left = w }
+  by_refusal zero e (copy_done end) h w = record { typed = t; answer = refl; target_left = w }
+  by_refusal zero e (copy_refused zero) h w = absurd (omega (arith, h))
+  by_refusal zero e (copy_refused (suc k)) h w = absurd (omega (arith, h))
+  by_refusal (suc n) e (copy_done end) h w = absurd (omega (arith, h))
+  by_refusal (suc n) e (copy_refused zero) h w = never (not_99 lent (e ∙ sym h))
+  by_refusal (suc n) e (copy_refused (suc k)) h w = record { typed = tt; answer = ap Refused h; target_left = w }
 
   pub into_left : (c : CopyAnswer) → (copy_numbers c).refusal ≡ (copy_of lent).refusal → target' ≡ (copy_of lent).target → Into (left qs) limit target (copied_as c (length target)) target'
   unfolding copy_of cut_into
   into_left c h w =
-      let b = by-refusal (copy_refusal lent) refl c h w in
+      let b = by_refusal (copy_refusal lent) refl c h w in
       record { typed = b.typed; answer = b.answer; target_left = b.target_left }
 
 -- ---- over the lent memory
@@ -127,8 +127,8 @@ module _ (card scratch scratch' : List ℕ) (m m' : Memory) (ks ks' : List ℕ) 
     abbrev outcome : Outcome
     outcome = replay_of card (capacities m) (length scratch)
 
-    abbrev queues-left : List Queue
-    queues-left = outcome_queues outcome
+    abbrev queues_left : List Queue
+    queues_left = outcome_queues outcome
 
     -- replay was not refused 6
     long : length m.entries ≤ length ks
@@ -137,36 +137,36 @@ module _ (card scratch scratch' : List ℕ) (m m' : Memory) (ks ks' : List ℕ) 
     kept : QueuesReplayed card scratch m a scratch' m'
     kept = queues_kept card m ks (λ _. long) scratch scratch' m' a ks' w
 
-    came-to : came.outcome ≡ outcome
-    came-to = outcome_long card (length scratch) m ks long
+    came_to : came.outcome ≡ outcome
+    came_to = outcome_long card (length scratch) m ks long
 
-    outcome_is : outcome ≡ left queues-left
+    outcome_is : outcome ≡ left queues_left
     outcome_is =
-        subst (λ (o : Outcome). o ≡ left (outcome_queues o)) came-to
+        subst (λ (o : Outcome). o ≡ left (outcome_queues o)) came_to
         (outcome_left came.outcome came.lost came.lost_bytes came.resumed i b j (sym e ∙ answers))
 
     legal : log_refused card ≡ false
-    legal = legal_by card (capacities m) (length scratch) queues-left outcome_is (log_refused card) refl
+    legal = legal_by card (capacities m) (length scratch) queues_left outcome_is (log_refused card) refl
 
-    leaves : Leaves m m' queues-left
-    leaves = (replays_as card scratch scratch' m m' a kept legal (left queues-left) outcome_is).memory_left
+    leaves : Leaves m m' queues_left
+    leaves = (replays_as card scratch scratch' m m' a kept legal (left queues_left) outcome_is).memory_left
 
-    scratch-zero : scratch' ≡ zeros (length scratch)
+    scratch_zero : scratch' ≡ zeros (length scratch)
     unfolding replay_scratch
-    scratch-zero = subst (λ (b : Bool). scratch' ≡ cond b scratch (zeros (length scratch))) legal kept.scratch_left
+    scratch_zero = subst (λ (b : Bool). scratch' ≡ cond b scratch (zeros (length scratch))) legal kept.scratch_left
 
-    lent_is : lent_of target scratch' m' ks' ≡ lent_for target queues-left (length scratch)
+    lent_is : lent_of target scratch' m' ks' ≡ lent_for target queues_left (length scratch)
     unfolding lent_of
     lent_is =
         ap (λ (qs : List Queue). record { target = target; queues = qs; arranged = arranged_with m' ks'; scratch = scratch' }) leaves.means
-        ∙ ap₂ (λ (x : Bool) (s : List ℕ). record { target = target; queues = queues-left; arranged = x; scratch = s })
-        (replay_arranged card scratch scratch' m m' ks ks' a legal long w) scratch-zero
+        ∙ ap₂ (λ (x : Bool) (s : List ℕ). record { target = target; queues = queues_left; arranged = x; scratch = s })
+        (replay_arranged card scratch scratch' m m' ks ks' a legal long w) scratch_zero
 
     pub into_copied : (c : CopyAnswer) (target' scratch'' : List ℕ) → CopyKept target scratch' m' ks' (copy_numbers c) target' scratch''
         → Into came.outcome (length scratch) target (copied_as c (length target)) target'
     into_copied c target' scratch'' k =
-        subst (λ (o : Outcome). Into o (length scratch) target (copied_as c (length target)) target') (sym (came-to ∙ outcome_is))
-        (into_left target queues-left (length scratch) target' (subst QueuesTyped leaves.means (memory_typed m' k.typed)) c
+        subst (λ (o : Outcome). Into o (length scratch) target (copied_as c (length target)) target') (sym (came_to ∙ outcome_is))
+        (into_left target queues_left (length scratch) target' (subst QueuesTyped leaves.means (memory_typed m' k.typed)) c
         (k.refusal_is ∙ ap (λ (s : CopyLent). (copy_of s).refusal) lent_is)
         (k.target_left ∙ ap (λ (s : CopyLent). (copy_of s).target) lent_is))
 

@@ -57,11 +57,11 @@ module _ (card : List ℕ) (qs : List Queue) (b : Bytes card) (t : QueuesTyped q
   taken : copy_refusal lent ≡ 0
   taken = (was_done card qs d).taken
 
-  held-is : replay_of card readout_room readout_scratch ≡ left qs
-  held-is = (was_done card qs d).outcome_is
+  held_is : replay_of card readout_room readout_scratch ≡ left qs
+  held_is = (was_done card qs d).outcome_is
 
   in_room : queues_arranged readout_room qs ≡ true
-  in_room = replayed_arranged card readout_room readout_scratch qs b held-is
+  in_room = replayed_arranged card readout_room readout_scratch qs b held_is
 
   long : length fresh ≡ blocks card * 32768
   long = fresh_long card qs readout_scratch taken
@@ -69,24 +69,24 @@ module _ (card : List ℕ) (qs : List Queue) (b : Bytes card) (t : QueuesTyped q
   same_blocks : blocks fresh ≡ blocks card
   same_blocks = omega (arith, long)
 
-  again-is : replay_of fresh readout_room readout_scratch ≡ left qs
-  again-is =
+  again_is : replay_of fresh readout_room readout_scratch ≡ left qs
+  again_is =
       ap (λ (log : List ℕ). replay_of log readout_room readout_scratch) (sym (fresh_is card qs readout_scratch taken))
       ∙ states_copy_replays lent readout_room taken in_room t readout_scratch (omega (arith, length-replicate {A = ℕ} readout_scratch 0))
 
   short : Shorter readout_scratch (copy_encoded qs)
   short = subst (λ (n : ℕ). Shorter n (copy_encoded qs)) (length-replicate {A = ℕ} readout_scratch 0) (copy_passed lent taken).in_scratch
 
-  nothing-lost : lost_bytes fresh readout_scratch ≡ 0
+  nothing_lost : lost_bytes fresh readout_scratch ≡ 0
   unfolding encoded
-  nothing-lost =
+  nothing_lost =
       ap (λ (log : List ℕ). lost_bytes log readout_scratch) (sym (fresh_is card qs readout_scratch taken) ∙ target_left lent taken)
       ∙ records_lose_nothing (number lent taken) readout_scratch (encoded lent taken) (rest lent taken) (rest_short lent taken) (room lent taken) short
       (decoded (copy_records qs) (formed lent taken (arranged_ordered readout_room qs in_room) t))
 
   -- a copy carries no marks
-  none-marked : marks_in (readings fresh readout_scratch) ≡ []
-  none-marked =
+  none_marked : marks_in (readings fresh readout_scratch) ≡ []
+  none_marked =
       ap (λ (log : List ℕ). marks_in (readings log readout_scratch)) (sym (fresh_is card qs readout_scratch taken))
       ∙ states_copy_lists_none lent taken (arranged_ordered readout_room qs in_room) t readout_scratch (shorter_none readout_scratch (copy_encoded qs) short)
 
@@ -96,22 +96,22 @@ module _ (card : List ℕ) (qs : List Queue) (b : Bytes card) (t : QueuesTyped q
       let h = sized_long card (was_sized card qs d) in
       let ms : List ℕ = marks_in (readings fresh readout_scratch) in
       just_sized fresh (omega (arith, long, h.0)) (omega (arith, long, h.1))
-      ∙ ap (λ (o : Outcome). text_for (replayed_by o (lost_in (readings fresh readout_scratch)) (lost_bytes fresh readout_scratch) (resume fresh readout_scratch)) (listed_by o ms) (length fresh)) again-is
-      ∙ ap₂ (λ (ns : List ℕ) (n : ℕ). shift_lines ns ++ listing qs n (resume fresh readout_scratch) (length fresh)) none-marked nothing-lost
+      ∙ ap (λ (o : Outcome). text_for (replayed_by o (lost_in (readings fresh readout_scratch)) (lost_bytes fresh readout_scratch) (resume fresh readout_scratch)) (listed_by o ms) (length fresh)) again_is
+      ∙ ap₂ (λ (ns : List ℕ) (n : ℕ). shift_lines ns ++ listing qs n (resume fresh readout_scratch) (length fresh)) none_marked nothing_lost
 
-  fresh-sized : not_sized fresh ≡ false
-  fresh-sized =
+  fresh_sized : not_sized fresh ≡ false
+  fresh_sized =
       let h = sized_long card (was_sized card qs d) in
       sized_is fresh (omega (arith, long, h.0)) (omega (arith, long, h.1))
 
-  same-blank : blank_card fresh ≡ blank_card card
-  same-blank = ap (λ (k : ℕ). zeros (k * 32768)) same_blocks
+  same_blank : blank_card fresh ≡ blank_card card
+  same_blank = ap (λ (k : ℕ). zeros (k * 32768)) same_blocks
 
   pub stays_so : cut_down fresh ≡ cut_to qs
   unfolding cut_down cut_into cut_by
   stays_so =
-      ap₂ (λ (x : Bool) (o : Outcome). cond x (cut_refused 1) (cut_into (blank_card fresh) readout_scratch o)) fresh-sized again-is
-      ∙ ap (λ (z : List ℕ). cut_by (copy_refusal (lent_for z qs readout_scratch)) qs) same-blank
+      ap₂ (λ (x : Bool) (o : Outcome). cond x (cut_refused 1) (cut_into (blank_card fresh) readout_scratch o)) fresh_sized again_is
+      ∙ ap (λ (z : List ℕ). cut_by (copy_refusal (lent_for z qs readout_scratch)) qs) same_blank
       ∙ ap (λ (n : ℕ). cut_by n qs) taken
 
   pub refreshed : Refreshed card fresh
@@ -119,12 +119,12 @@ module _ (card : List ℕ) (qs : List Queue) (b : Bytes card) (t : QueuesTyped q
   refreshed =
       record {
         queues = qs;
-        held = held-is;
-        again = again-is;
+        held = held_is;
+        again = again_is;
         as_long = long;
         lists = lists_them;
         stays = stays_so;
-        same_bytes_lem = ap (λ (z : List ℕ). copied z qs) same-blank;
+        same_bytes_lem = ap (λ (z : List ℕ). copied z qs) same_blank;
       }
 
 -- ---- from the contract
@@ -134,17 +134,17 @@ module _ (card out out' : List ℕ) (n : ℕ) (w : CutKept card out (Written n) 
   short_by true e h = never (cc)
   short_by false e h = e
 
-  had-room : short_for card (length out) ≡ false
+  had_room : short_for card (length out) ≡ false
   unfolding cut_answer
-  had-room = short_by (short_for card (length out)) refl w.answer
+  had_room = short_by (short_for card (length out)) refl w.answer
 
-  answer-is : Written n ≡ answered_by (blocks card * 32768) (cut_down card)
+  answer_is : Written n ≡ answered_by (blocks card * 32768) (cut_down card)
   unfolding cut_answer
-  answer-is = w.answer ∙ ap (λ (x : Bool). cond x NoRoom (answered_by (blocks card * 32768) (cut_down card))) had-room
+  answer_is = w.answer ∙ ap (λ (x : Bool). cond x NoRoom (answered_by (blocks card * 32768) (cut_down card))) had_room
 
   left_is : out' ≡ written_by card out (cut_down card)
   unfolding cut_left
-  left_is = w.buffer_left ∙ ap (λ (x : Bool). cond x out (written_by card out (cut_down card))) had-room
+  left_is = w.buffer_left ∙ ap (λ (x : Bool). cond x out (written_by card out (cut_down card))) had_room
 
   -- the fresh card is what is answered, and stands at the start of what is left
   pub record Stands (qs : List Queue) : Type 0 where
@@ -156,18 +156,18 @@ module _ (card out out' : List ℕ) (n : ℕ) (w : CutKept card out (Written n) 
   stands_on : (qs : List Queue) → cut_down card ≡ cut_to qs → Stands qs
   unfolding answered_by written_by
   stands_on qs d =
-      let e : Written n ≡ Written (blocks card * 32768) = answer-is ∙ ap (answered_by (blocks card * 32768)) d in
+      let e : Written n ≡ Written (blocks card * 32768) = answer_is ∙ ap (answered_by (blocks card * 32768)) d in
       let f : n ≡ blocks card * 32768 = cc in
       record {
         down = d;
-        typed = subst CutTyped d (w.typed had-room);
+        typed = subst CutTyped d (w.typed had_room);
         long = fresh_long card qs readout_scratch (was_done card qs d).taken ∙ sym f;
         left = left_is ∙ ap (written_by card out) d ∙ put_first out (fresh_card card qs);
       }
 
   stands_by : {A : Type 0} → ((qs : List Queue) → Stands qs → A) → (c : Cut) → cut_down card ≡ c → A
   unfolding answered_by
-  stands_by go (cut_refused k) d = let e : Written n ≡ Refused k = answer-is ∙ ap (answered_by (blocks card * 32768)) d in never (cc)
+  stands_by go (cut_refused k) d = let e : Written n ≡ Refused k = answer_is ∙ ap (answered_by (blocks card * 32768)) d in never (cc)
   stands_by go (cut_to qs) d = go qs (stands_on qs d)
 
 pub cutdown_refreshes : CutdownRefreshes

@@ -48,42 +48,42 @@ pub opening_sized : Sized opening
 opening_sized = record { room_is = refl; scratch_is = refl; log_size = refl }
 
 module _ (s : State) (z : Sized s) where
-  logged-sized : (r : Record) (qs : List Queue) (fits : Bool) → WriteTaken s r fits → Sized (logged s r qs)
+  logged_sized : (r : Record) (qs : List Queue) (fits : Bool) → WriteTaken s r fits → Sized (logged s r qs)
   unfolding logged
-  logged-sized r qs fits w =
+  logged_sized r qs fits w =
       record {
         room_is = z.room_is;
         scratch_is = z.scratch_is;
         log_size = length_put s.log s.place (record_bytes s.place (encode r)) (omega (arith, length_record s.place (encode r), w.in_log)) ∙ z.log_size;
       }
 
-  append-sized : (n : List ℕ) (a : Position) (run ks : List ℕ) → AppendPassed s n a run ks → (e : Bool) → gives_empty a (next_named s n) ks ≡ e
+  append_sized : (n : List ℕ) (a : Position) (run ks : List ℕ) → AppendPassed s n a run ks → (e : Bool) → gives_empty a (next_named s n) ks ≡ e
       → Sized (cond e (empty_answer s) (append_taking s n (first_position a (next_named s n)) run ks)).state
   unfolding empty_answer append_taking wrote
-  append-sized n a run ks w true e = z
-  append-sized n a run ks w false e = logged-sized _ _ _ (w.taking e).write
+  append_sized n a run ks w true e = z
+  append_sized n a run ks w false e = logged_sized _ _ _ (w.taking e).write
 
-  done-sized : (k : Call) → refusal_of s k ≡ 0 → Sized (done_of s k).state
+  done_sized : (k : Call) → refusal_of s k ≡ 0 → Sized (done_of s k).state
   unfolding refusals_of done_of create_done delete_done truncate_done append_done wrote mark_done marked logged
-  done-sized (create_call n) e = logged-sized _ _ _ (create_passed s n e).write
-  done-sized (delete_call n) e = logged-sized _ _ _ (delete_passed s n e).write
-  done-sized (truncate_call n x) e = logged-sized _ _ _ (truncate_passed s n x e).write
-  done-sized (append_call n a run ks) e = append-sized n a run ks (append-passed s n a run ks e) (gives_empty a (next_named s n) ks) refl
-  done-sized (mark_call n body) e =
+  done_sized (create_call n) e = logged_sized _ _ _ (create_passed s n e).write
+  done_sized (delete_call n) e = logged_sized _ _ _ (delete_passed s n e).write
+  done_sized (truncate_call n x) e = logged_sized _ _ _ (truncate_passed s n x e).write
+  done_sized (append_call n a run ks) e = append_sized n a run ks (append-passed s n a run ks e) (gives_empty a (next_named s n) ks) refl
+  done_sized (mark_call n body) e =
       record {
         room_is = z.room_is;
         scratch_is = z.scratch_is;
-        log_size = (logged-sized (mark n body) s.queues true (mark_passed s n body e).write).log_size;
+        log_size = (logged_sized (mark n body) s.queues true (mark_passed s n body e).write).log_size;
       }
 
-  returned-sized : (k : Call) (i : ℕ) → refusal_of s k ≡ i → Sized (returned_by i s (done_of s k)).state
+  returned_sized : (k : Call) (i : ℕ) → refusal_of s k ≡ i → Sized (returned_by i s (done_of s k)).state
   unfolding returned_by
-  returned-sized k zero e = done-sized k e
-  returned-sized k (suc i) e = z
+  returned_sized k zero e = done_sized k e
+  returned_sized k (suc i) e = z
 
   pub call_sized : (k : Call) → Sized (call_of s k).state
   unfolding call_of
-  call_sized k = returned-sized k (refusal_of s k) refl
+  call_sized k = returned_sized k (refusal_of s k) refl
 
 on_sized : (p : Parsed) (h : List Fed) (s : State) (go : List Fed → State → List ℕ → Driven)
     → ((h' : List Fed) (s' : State) (rest : List ℕ) → Sized s' → Sized (go h' s' rest).state)

@@ -242,14 +242,14 @@ ok_short s (append_call n a run ks) h c z =
 ok_short s (mark_call n body) h c z = absurd h
 
 module _ (s : State) (k : Call) (h : ShortCall k) (c : record_count s.queues ≤ 1024) where
-  line-by : (i : ℕ) → refusal_of s k ≡ i → length (line_by k (returned_by i s (done_of s k)).answer) ≤ line_most k
+  line_by_lem : (i : ℕ) → refusal_of s k ≡ i → length (line_by k (returned_by i s (done_of s k)).answer) ≤ line_most k
   unfolding line_by returned_by
-  line-by zero z = subst (λ (j : ℕ). length (cond (eqb j 0) (ok_line k (done_of s k).answer) (refusal j)) ≤ line_most k) (sym (done_zero s k)) (ok_short s k h c z)
-  line-by (suc i) z =
+  line_by_lem zero z = subst (λ (j : ℕ). length (cond (eqb j 0) (ok_line k (done_of s k).answer) (refusal j)) ≤ line_most k) (sym (done_zero s k)) (ok_short s k h c z)
+  line_by_lem (suc i) z =
       subst (λ (b : Bool). length (cond b (ok_line k (returned_by (suc i) s (done_of s k)).answer) (refusal (suc i))) ≤ line_most k)
       (sym (ne_eqb (suc i) 0 (λ q. omega (arith, q))))
       (omega (arith, refusal_short (suc i) (omega (arith, sym z, refusal_most s k)), most_least k))
 
   pub line_short : length (line_of s k) ≤ line_most k
   unfolding line_of call_of
-  line_short = line-by (refusal_of s k) refl
+  line_short = line_by_lem (refusal_of s k) refl

@@ -74,24 +74,24 @@ leaving-counted q e = omega (arith, leaving_count_on (ltb e q.start) (leb (next 
 -- ---- one call that is not refused
 
 module _ (m : Machine) (s : State) (same : m.queues ≡ s.queues) where
-  create-balance : (n : List ℕ) → first_refusal (create_refusals s n) ≡ 0
+  create_balance : (n : List ℕ) → first_refusal (create_refusals s n) ≡ 0
       → payload_bytes (machine_call m (create_call n)).queues + gone_by m.queues (create_call n) ≡ payload_bytes m.queues + accepted_by m.queues (create_call n)
   unfolding machine_call puts gone_by accepted_by payloads_of
-  create-balance n e =
+  create_balance n e =
       omega (arith, (sums_new m.queues (queue n 0 []) (ap (find n) same ∙ (create_passed s n e).is_missing)).payloads)
 
-  delete-balance : (n : List ℕ) → first_refusal (delete_refusals s n) ≡ 0
+  delete_balance : (n : List ℕ) → first_refusal (delete_refusals s n) ≡ 0
       → payload_bytes (machine_call m (delete_call n)).queues + gone_by m.queues (delete_call n) ≡ payload_bytes m.queues + accepted_by m.queues (delete_call n)
   unfolding machine_call puts gone_by accepted_by held_bytes
-  delete-balance n e =
+  delete_balance n e =
       let w = (delete_passed s n e).named in
       let f : find n m.queues ≡ held w.queue = ap (find n) same ∙ w.is_held in
       omega (arith, (sums-without m.queues n w.queue f).payloads, ap held_bytes f)
 
-  truncate-balance : (n : List ℕ) (x : ℕ) → first_refusal (truncate_refusals s n x) ≡ 0
+  truncate_balance : (n : List ℕ) (x : ℕ) → first_refusal (truncate_refusals s n x) ≡ 0
       → payload_bytes (machine_call m (truncate_call n x)).queues + gone_by m.queues (truncate_call n x) ≡ payload_bytes m.queues + accepted_by m.queues (truncate_call n x)
   unfolding machine_call puts gone_by accepted_by evicted_bytes truncate_found
-  truncate-balance n x e =
+  truncate_balance n x e =
       let w = (truncate_passed s n x e).named in
       let q : Queue = w.queue in
       let f : find n m.queues ≡ held q = ap (find n) same ∙ w.is_held in
@@ -103,12 +103,12 @@ module _ (m : Machine) (s : State) (same : m.queues ≡ s.queues) where
         ap (λ (y : Found). payload_bytes (truncate_found x m.queues y)) f,
       )
 
-  append-on : (n : List ℕ) (a : Position) (run ks : List ℕ) → first_refusal (append_refusals s n a run ks) ≡ 0 → (b : Bool)
+  append_on : (n : List ℕ) (a : Position) (run ks : List ℕ) → first_refusal (append_refusals s n a run ks) ≡ 0 → (b : Bool)
       → payload_bytes (cond b m (puts_append m n (first_position a (next_of (find n m.queues))) (items_at (first_position a (next_of (find n m.queues))) run ks))).queues
       ≡ payload_bytes m.queues + cond b 0 (length run)
   unfolding puts_append puts append_found
-  append-on n a run ks e true = omega arith
-  append-on n a run ks e false =
+  append_on n a run ks e true = omega arith
+  append_on n a run ks e false =
       let p = append-passed s n a run ks e in
       let w = p.named in
       let q : Queue = w.queue in
@@ -122,23 +122,23 @@ module _ (m : Machine) (s : State) (same : m.queues ≡ s.queues) where
         ap (λ (y : Found). payload_bytes (append_found (items_at o run ks) m.queues y)) f,
       )
 
-  append-balance : (n : List ℕ) (a : Position) (run ks : List ℕ) → first_refusal (append_refusals s n a run ks) ≡ 0
+  append_balance : (n : List ℕ) (a : Position) (run ks : List ℕ) → first_refusal (append_refusals s n a run ks) ≡ 0
       → payload_bytes (machine_call m (append_call n a run ks)).queues + gone_by m.queues (append_call n a run ks) ≡ payload_bytes m.queues + accepted_by m.queues (append_call n a run ks)
   unfolding machine_call gone_by accepted_by
-  append-balance n a run ks e = omega (arith, append-on n a run ks e (gives_empty a (next_of (find n m.queues)) ks))
+  append_balance n a run ks e = omega (arith, append_on n a run ks e (gives_empty a (next_of (find n m.queues)) ks))
 
-  mark-balance : (n : ℕ) (body : List ℕ)
+  mark_balance : (n : ℕ) (body : List ℕ)
       → payload_bytes (machine_call m (mark_call n body)).queues + gone_by m.queues (mark_call n body) ≡ payload_bytes m.queues + accepted_by m.queues (mark_call n body)
   unfolding machine_call puts gone_by accepted_by
-  mark-balance n body = refl
+  mark_balance n body = refl
 
-  call-balance : (k : Call) → refusal_of s k ≡ 0 → payload_bytes (machine_call m k).queues + gone_by m.queues k ≡ payload_bytes m.queues + accepted_by m.queues k
+  call_balance : (k : Call) → refusal_of s k ≡ 0 → payload_bytes (machine_call m k).queues + gone_by m.queues k ≡ payload_bytes m.queues + accepted_by m.queues k
   unfolding refusals_of
-  call-balance (create_call n) e = create-balance n e
-  call-balance (delete_call n) e = delete-balance n e
-  call-balance (truncate_call n x) e = truncate-balance n x e
-  call-balance (append_call n a run ks) e = append-balance n a run ks e
-  call-balance (mark_call n body) e = mark-balance n body
+  call_balance (create_call n) e = create_balance n e
+  call_balance (delete_call n) e = delete_balance n e
+  call_balance (truncate_call n x) e = truncate_balance n x e
+  call_balance (append_call n a run ks) e = append_balance n a run ks e
+  call_balance (mark_call n body) e = mark_balance n body
 
 -- ---- a call that was not refused met no refusal
 
@@ -154,7 +154,7 @@ balance_on : (h : List Fed) (s : State) (k : Call) (b : Bool) → (machine h).qu
     → payload_bytes (cond b (machine h) (machine_call (machine h) k)).queues + cond b (gone h) (gone_by (machine h).queues k + gone h)
     ≡ cond b (accepted h) (accepted_by (machine h).queues k + accepted h)
 balance_on h s k true same z rec = rec
-balance_on h s k false same z rec = omega (arith, call-balance (machine h) s same k (z refl))
+balance_on h s k false same z rec = omega (arith, call_balance (machine h) s same k (z refl))
 
 balance_call : (h : List Fed) (s : State) (k : Call) (a : CallAnswer) → StatesRun h s → a ≡ (call_of s k).answer → payload_bytes (machine h).queues + gone h ≡ accepted h
     → payload_bytes (machine (record { asked = k; refused = was_refused a } ∷ h)).queues + gone (record { asked = k; refused = was_refused a } ∷ h)

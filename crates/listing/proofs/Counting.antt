@@ -20,14 +20,14 @@ use Rattle.listing.proofs.Writes.{length-written, wrote, on}
 
 -- a second piece after the first
 module _ (s : List ℕ) (p : ℕ) (xs ys : List ℕ) where
-  both-pieces : Wrote s p (xs ++ ys) (behind (length (written s p xs)) (behind (length s) p (length xs)) (length ys)) (written (written s p xs) (behind (length s) p (length xs)) ys)
-  both-pieces = on (wrote {xs = xs} refl refl) (wrote {xs = ys} refl refl)
+  both_pieces : Wrote s p (xs ++ ys) (behind (length (written s p xs)) (behind (length s) p (length xs)) (length ys)) (written (written s p xs) (behind (length s) p (length xs)) ys)
+  both_pieces = on (wrote {xs = xs} refl refl) (wrote {xs = ys} refl refl)
 
   pub place_on_lem : behind (length (written s p xs)) (behind (length s) p (length xs)) (length ys) ≡ behind (length s) p (length (xs ++ ys))
-  place_on_lem = both-pieces.place
+  place_on_lem = both_pieces.place
 
   pub buffer_on : written (written s p xs) (behind (length s) p (length xs)) ys ≡ written s p (xs ++ ys)
-  buffer_on = both-pieces.buffer
+  buffer_on = both_pieces.buffer
 
 -- nothing is written
 written_none : (s : List ℕ) (p : ℕ) → written s p [] ≡ s
@@ -45,14 +45,14 @@ module _ (k : ℕ) (es : List RecordEntry) where
   unfolding count_to
   count_next i = ap (count_to k es) (sym (add-one i))
 
-  counted-at-most : (b : Bool) (n : ℕ) → cond b (n + 1) n ≤ n + 1
-  counted-at-most true n = omega arith
-  counted-at-most false n = omega arith
+  counted_at_most : (b : Bool) (n : ℕ) → cond b (n + 1) n ≤ n + 1
+  counted_at_most true n = omega arith
+  counted_at_most false n = omega arith
 
   pub count_below : (i : ℕ) → count_to k es i + 1 ≤ i + 1
   unfolding count_to counted
   count_below zero = omega arith
-  count_below (suc i) = omega (arith, count_below i, counted-at-most (eqb (get_or es i blank).queue k) (count_to k es i))
+  count_below (suc i) = omega (arith, count_below i, counted_at_most (eqb (get_or es i blank).queue k) (count_to k es i))
 
 module _ (k : ℕ) (es : List RecordEntry) (ps s : List ℕ) (p : ℕ) where
   pub lines_zero : written s p (lines_to k es ps 0) ≡ s
@@ -105,9 +105,9 @@ module _ (ns ps : List ℕ) (es : List RecordEntry) (t : List ℕ) where
     pub texts_length : (i : ℕ) → length (written s p (queues_to ns ps es t c i)) ≡ length s
     texts_length i = length-written s p (queues_to ns ps es t c i)
 
-    texts-more : (i : ℕ) → queues_to ns ps es t c i ++ queue_text ns ps es t c (names_to t i) i ≡ queues_to ns ps es t c (i + 1)
+    texts_more : (i : ℕ) → queues_to ns ps es t c i ++ queue_text ns ps es t c (names_to t i) i ≡ queues_to ns ps es t c (i + 1)
     unfolding queues_to
-    texts-more i = ap (queues_to ns ps es t c) (sym (add-one i))
+    texts_more i = ap (queues_to ns ps es t c) (sym (add-one i))
 
     pub queues_next : (i : ℕ)
         → cursor (behind (length (written s p (queues_to ns ps es t c i))) (behind (length s) p (length (queues_to ns ps es t c i))) (length (queue_text ns ps es t c (names_to t i) i)))
@@ -115,13 +115,13 @@ module _ (ns ps : List ℕ) (es : List RecordEntry) (t : List ℕ) where
         ≡ queues_at (length s) p ns ps es t c (i + 1)
     queues_next i =
         ap₂ cursor
-        (place_on_lem s p (queues_to ns ps es t c i) (queue_text ns ps es t c (names_to t i) i) ∙ ap (λ (l : List ℕ). behind (length s) p (length l)) (texts-more i))
+        (place_on_lem s p (queues_to ns ps es t c i) (queue_text ns ps es t c (names_to t i) i) ∙ ap (λ (l : List ℕ). behind (length s) p (length l)) (texts_more i))
         (sym (names_more t i) ∙ ap (names_to t) (sym (add-one i)))
 
     pub texts_next : (i : ℕ)
         → written (written s p (queues_to ns ps es t c i)) (behind (length s) p (length (queues_to ns ps es t c i))) (queue_text ns ps es t c (names_to t i) i)
         ≡ written s p (queues_to ns ps es t c (i + 1))
-    texts_next i = buffer_on s p (queues_to ns ps es t c i) (queue_text ns ps es t c (names_to t i) i) ∙ ap (written s p) (texts-more i)
+    texts_next i = buffer_on s p (queues_to ns ps es t c i) (queue_text ns ps es t c (names_to t i) i) ∙ ap (written s p) (texts_more i)
 
 pub queues_zero : (n p : ℕ) (ns ps : List ℕ) (es : List RecordEntry) (t : List ℕ) (c : ℕ) → queues_at n p ns ps es t c 0 ≡ cursor p 0
 unfolding queues_to names_to behind

@@ -40,9 +40,9 @@ module _ (k : ℕ) (es : List RecordEntry) (ps : List ℕ) where
       on_test true = append-nil (record_line (item e.position (take e.length (drop p ps))))
       on_test false = refl
 
-  one-count : (e : RecordEntry) (p n : ℕ) → n + length (one k es ps e p) ≡ counted k e n
+  one_count : (e : RecordEntry) (p n : ℕ) → n + length (one k es ps e p) ≡ counted k e n
   unfolding counted items_of arrivals
-  one-count e p n = on_test (eqb e.queue k)
+  one_count e p n = on_test (eqb e.queue k)
     where
       on_test : (b : Bool) → n + length (cond b (item e.position (take e.length (drop p ps)) ∷ []) []) ≡ cond b (n + 1) n
       on_test true = refl
@@ -55,13 +55,13 @@ module _ (k : ℕ) (es : List RecordEntry) (ps : List ℕ) where
       ap record_lines (items_more k es ps n (omega arith)) ∙ lines_append (items k es ps n) (one k es ps (get_or es n blank) (passed_to es n))
       ∙ ap₂ (λ (a b : List ℕ). a ++ b) (lines_are n (omega arith)) (one_line (get_or es n blank) (passed_to es n))
 
-  count-are : (n : ℕ) → n ≤ length es → length (items k es ps n) ≡ count_to k es n
+  count_are : (n : ℕ) → n ≤ length es → length (items k es ps n) ≡ count_to k es n
   unfolding count_to items_of arrivals
-  count-are zero h = refl
-  count-are (suc n) h =
+  count_are zero h = refl
+  count_are (suc n) h =
       ap length (items_more k es ps n (omega arith)) ∙ length-append (items k es ps n) (one k es ps (get_or es n blank) (passed_to es n))
-      ∙ ap (λ (a : ℕ). a + length (one k es ps (get_or es n blank) (passed_to es n))) (count-are n (omega arith))
-      ∙ one-count (get_or es n blank) (passed_to es n) (count_to k es n)
+      ∙ ap (λ (a : ℕ). a + length (one k es ps (get_or es n blank) (passed_to es n))) (count_are n (omega arith))
+      ∙ one_count (get_or es n blank) (passed_to es n) (count_to k es n)
 
 -- ---- the queues from row j on
 module _ (ns ps : List ℕ) (es : List RecordEntry) (t : List ℕ) (n : ℕ) (h : n ≤ length es) where
@@ -76,24 +76,24 @@ module _ (ns ps : List ℕ) (es : List RecordEntry) (t : List ℕ) (n : ℕ) (h 
         ap (λ (ws : List ℕ). nexts_true (rows_from k ws) (from ns ps es t n (suc j) k)) (sym (behind-row t j)) ∙ and_right first others f,
       )
 
-  text-here : (j : ℕ) → word_at t j 2 ≡ next (here ns ps es t n j) → queue_line (here ns ps es t n j) ++ record_lines (here ns ps es t n j).records ≡ queue_text ns ps es t n (names_to t j) j
+  text_here : (j : ℕ) → word_at t j 2 ≡ next (here ns ps es t n j) → queue_line (here ns ps es t n j) ++ record_lines (here ns ps es t n j).records ≡ queue_text ns ps es t n (names_to t j) j
   unfolding queue_line queue_text row_line_lem
-  text-here j e =
+  text_here j e =
       ap₂ (λ (a b : List ℕ). a ++ b)
-      (ap₂ (λ (x c : ℕ). head_line (take (word_at t j 0) (drop (names_to t j) ns)) (word_at t j 1) x c) (sym e) (count-are j es ps n h))
+      (ap₂ (λ (x c : ℕ). head_line (take (word_at t j 0) (drop (names_to t j) ns)) (word_at t j 1) x c) (sym e) (count_are j es ps n h))
       (lines_are j es ps n h)
 
-  texts-are : (k j : ℕ) → nexts_true (rows_from k (drop (row_at j) t)) (from ns ps es t n j k) ≡ true → queues_to ns ps es t n j ++ queue_lines (from ns ps es t n j k) ≡ queues_to ns ps es t n (j + k)
+  texts_are : (k j : ℕ) → nexts_true (rows_from k (drop (row_at j) t)) (from ns ps es t n j k) ≡ true → queues_to ns ps es t n j ++ queue_lines (from ns ps es t n j k) ≡ queues_to ns ps es t n (j + k)
   unfolding queue_lines queues_to queues_from rows_from
-  texts-are zero j e = let f : j + 0 ≡ j = omega arith in append-nil (queues_to ns ps es t n j) ∙ ap (queues_to ns ps es t n) (sym f)
-  texts-are (suc k) j e =
+  texts_are zero j e = let f : j + 0 ≡ j = omega arith in append-nil (queues_to ns ps es t n j) ∙ ap (queues_to ns ps es t n) (sym f)
+  texts_are (suc k) j e =
       let f : suc j + k ≡ j + suc k = omega arith in
       let both : (word_at t j 2 ≡ next (here ns ps es t n j)) × (nexts_true (rows_from k (drop (row_at (suc j)) t)) (from ns ps es t n (suc j) k) ≡ true) = next_here j k e in
       ap (λ (qs : List Queue). queues_to ns ps es t n j ++ queue_lines qs) (from_next ns ps es t n j k)
       ∙ ap (λ (l : List ℕ). queues_to ns ps es t n j ++ l) (sym (append_assoc (queue_line (here ns ps es t n j)) (record_lines (here ns ps es t n j).records) (queue_lines (from ns ps es t n (suc j) k))))
-      ∙ ap (λ (l : List ℕ). queues_to ns ps es t n j ++ (l ++ queue_lines (from ns ps es t n (suc j) k))) (text-here j both.0)
+      ∙ ap (λ (l : List ℕ). queues_to ns ps es t n j ++ (l ++ queue_lines (from ns ps es t n (suc j) k))) (text_here j both.0)
       ∙ sym (append_assoc (queues_to ns ps es t n j) (queue_text ns ps es t n (names_to t j) j) (queue_lines (from ns ps es t n (suc j) k)))
-      ∙ texts-are k (suc j) both.1
+      ∙ texts_are k (suc j) both.1
       ∙ ap (queues_to ns ps es t n) f
 
 -- ---- an arranged memory
@@ -102,20 +102,20 @@ module _ (m : Memory) (a : arranged m ≡ true) where
   facts : Arrangement m
   facts = arranged_arrangement m a
 
-  texts-mean : queues_to m.names m.payloads m.entries m.table (records_held m.table) (queues_held m.table) ≡ queue_lines (meaning m)
+  texts_mean : queues_to m.names m.payloads m.entries m.table (records_held m.table) (queues_held m.table) ≡ queue_lines (meaning m)
   unfolding meaning rows names_to queues_to
-  texts-mean =
+  texts_mean =
       let e : 0 + queues_held m.table ≡ queues_held m.table = omega arith in
       ap (queues_to m.names m.payloads m.entries m.table (records_held m.table)) (sym e)
-      ∙ sym (texts-are m.names m.payloads m.entries m.table (records_held m.table) facts.records_fit (queues_held m.table) 0 facts.nexts)
+      ∙ sym (texts_are m.names m.payloads m.entries m.table (records_held m.table) facts.records_fit (queues_held m.table) 0 facts.nexts)
 
-  text-means : (lost resumed bytes : ℕ)
+  text_means : (lost resumed bytes : ℕ)
       → number_line queues_word (queues_held m.table)
       ++ (queues_to m.names m.payloads m.entries m.table (records_held m.table) (queues_held m.table) ++ end_lines lost resumed bytes)
       ≡ listing (meaning m) lost resumed bytes
   unfolding listing
-  text-means lost resumed bytes =
-      ap₂ (λ (n : ℕ) (l : List ℕ). number_line queues_word n ++ (l ++ end_lines lost resumed bytes)) (sym (queues_held_lem m facts)) texts-mean
+  text_means lost resumed bytes =
+      ap₂ (λ (n : ℕ) (l : List ℕ). number_line queues_word n ++ (l ++ end_lines lost resumed bytes)) (sym (queues_held_lem m facts)) texts_mean
 
 -- ---- three pieces, written from a place of the buffer on
 
@@ -150,4 +150,4 @@ pub list_is : (ns ps : List ℕ) (es : List RecordEntry) (t : List ℕ) (lost re
     → Pieces s p (number_line queues_word (queues_held t)) (queues_to ns ps es t (records_held t) (queues_held t)) (end_lines lost resumed bytes) (listing (meaning (memory ns ps es t)) lost resumed bytes)
 list_is ns ps es t lost resumed bytes s p a =
     pieces s p (number_line queues_word (queues_held t)) (queues_to ns ps es t (records_held t) (queues_held t)) (end_lines lost resumed bytes) (listing (meaning (memory ns ps es t)) lost resumed bytes)
-    (text-means (memory ns ps es t) a lost resumed bytes)
+    (text_means (memory ns ps es t) a lost resumed bytes)

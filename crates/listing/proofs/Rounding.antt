@@ -35,8 +35,8 @@ module _ (a b : ℕ) (pos : 0 < b) where
   rest = mod-lt a pos
 
   -- t is the quotient
-  rounds-down : (t : ℕ) → t ≡ a / b → 2 * (a % b) ≤ b → (2 * (a % b) ≡ b → t % 2 ≡ 0) → Rounded a b t
-  rounds-down t e h even =
+  rounds_down : (t : ℕ) → t ≡ a / b → 2 * (a % b) ≤ b → (2 * (a % b) ≡ b → t % 2 ≡ 0) → Rounded a b t
+  rounds_down t e h even =
       let w : b * t + a % b ≡ a = rw e whole in
       record {
         not_above = omega (arith, w);
@@ -46,8 +46,8 @@ module _ (a b : ℕ) (pos : 0 < b) where
       }
 
   -- t is the quotient and 1
-  rounds-up : (t : ℕ) → t ≡ a / b + 1 → b ≤ 2 * (a % b) → (2 * (a % b) ≡ b → t % 2 ≡ 0) → Rounded a b t
-  rounds-up t e h even =
+  rounds_up : (t : ℕ) → t ≡ a / b + 1 → b ≤ 2 * (a % b) → (2 * (a % b) ≡ b → t % 2 ≡ 0) → Rounded a b t
+  rounds_up t e h even =
       let w : b * t + a % b ≡ a + b = rw e (omega (arith, whole)) in
       record {
         not_above = omega (arith, w);
@@ -56,24 +56,24 @@ module _ (a b : ℕ) (pos : 0 < b) where
         even_below = λ k. even (omega (arith, w, k, rest));
       }
 
-  rounds-even : (h : b ≤ 2 * (a % b)) → 2 * (a % b) ≤ b → Rounded a b (half_even a b)
-  rounds-even h k =
+  rounds_even : (h : b ≤ 2 * (a % b)) → 2 * (a % b) ≤ b → Rounded a b (half_even a b)
+  rounds_even h k =
       let t : ℕ = half_even a b in
       let e : t ≡ a / b + a / b % 2 = at_half a b h k in
       by_test (ltb (a / b % 2) 1)
-      (λ yes. let none : a / b % 2 < 1 = ltb-true (a / b % 2) 1 yes in rounds-down t (omega arith) k (λ _. omega arith))
-      (λ no. let one : 1 ≤ a / b % 2 = ltb-false (a / b % 2) 1 no in rounds-up t (omega arith) h (λ _. omega arith))
+      (λ yes. let none : a / b % 2 < 1 = ltb-true (a / b % 2) 1 yes in rounds_down t (omega arith) k (λ _. omega arith))
+      (λ no. let one : 1 ≤ a / b % 2 = ltb-false (a / b % 2) 1 no in rounds_up t (omega arith) h (λ _. omega arith))
 
 pub half_even_lem : HalfEven
 half_even_lem a b pos =
     let d : ℕ = 2 * (a % b) in
     by_test (ltb d b)
-    (λ yes. let less : d < b = ltb-true d b yes in rounds-down a b pos (half_even a b) (below_half a b less) (omega arith) (λ half. omega arith))
+    (λ yes. let less : d < b = ltb-true d b yes in rounds_down a b pos (half_even a b) (below_half a b less) (omega arith) (λ half. omega arith))
     (λ no.
     let most : b ≤ d = ltb-false d b no in
     by_test (ltb b d)
-    (λ yes. let more : b < d = ltb-true b d yes in rounds-up a b pos (half_even a b) (above_half a b more) most (λ half. omega arith))
-    (λ same. rounds-even a b pos most (ltb-false b d same)))
+    (λ yes. let more : b < d = ltb-true b d yes in rounds_up a b pos (half_even a b) (above_half a b more) most (λ half. omega arith))
+    (λ same. rounds_even a b pos most (ltb-false b d same)))
 
 -- ---- there is one such number
 

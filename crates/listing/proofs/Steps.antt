@@ -29,13 +29,13 @@ row_on ns t s p q k held l f n r u el ef en w =
 
 -- an entry of the queue, and one of another
 module _ (k : ℕ) (e : RecordEntry) where
-  entry-is : (xs : List ℕ) → e.queue ≡ k → record_line (item e.position xs) ≡ entry_line k e xs
+  entry_is : (xs : List ℕ) → e.queue ≡ k → record_line (item e.position xs) ≡ entry_line k e xs
   unfolding entry_line
-  entry-is xs h = simp (eq-eqb e.queue k h)
+  entry_is xs h = simp (eq-eqb e.queue k h)
 
-  entry-is-not : (xs : List ℕ) → (e.queue ≡ k → ⊥) → [] ≡ entry_line k e xs
+  entry_is_not : (xs : List ℕ) → (e.queue ≡ k → ⊥) → [] ≡ entry_line k e xs
   unfolding entry_line
-  entry-is-not xs h = simp (ne_eqb e.queue k h)
+  entry_is_not xs h = simp (ne_eqb e.queue k h)
 
   pub entry_on : (ps s : List ℕ) (p q r : ℕ) (u : List ℕ) → e.queue ≡ k → Wrote s p (record_line (item e.position (take (q + e.length - q) (drop q ps)))) r u
       → (cursor r (q + e.length) ≡ cursor (behind (length s) p (length (entry_line k e (take e.length (drop q ps))))) (q + e.length))
@@ -43,14 +43,14 @@ module _ (k : ℕ) (e : RecordEntry) where
   entry_on ps s p q r u h w =
       let em : q + e.length - q ≡ e.length = omega arith in
       let v : Wrote s p (entry_line k e (take e.length (drop q ps))) r u =
-      reads (ap (λ (j : ℕ). record_line (item e.position (take j (drop q ps)))) em ∙ entry-is (take e.length (drop q ps)) h) w in
+      reads (ap (λ (j : ℕ). record_line (item e.position (take j (drop q ps)))) em ∙ entry_is (take e.length (drop q ps)) h) w in
       (ap (λ (j : ℕ). cursor j (q + e.length)) v.place, v.buffer)
 
   pub entry_off : (ps s : List ℕ) (p q : ℕ) → (e.queue ≡ k → ⊥)
       → (cursor p (q + e.length) ≡ cursor (behind (length s) p (length (entry_line k e (take e.length (drop q ps))))) (q + e.length))
       × (s ≡ written s p (entry_line k e (take e.length (drop q ps))))
   entry_off ps s p q h =
-      let v : Wrote s p (entry_line k e (take e.length (drop q ps))) p s = reads (entry-is-not (take e.length (drop q ps)) h) (wrote_none_lem s p) in
+      let v : Wrote s p (entry_line k e (take e.length (drop q ps))) p s = reads (entry_is_not (take e.length (drop q ps)) h) (wrote_none_lem s p) in
       (ap (λ (j : ℕ). cursor j (q + e.length)) v.place, v.buffer)
 
   pub counted_one : (n : ℕ) → e.queue ≡ k → n + 1 ≡ counted k e n

@@ -63,26 +63,26 @@ decoded_costs no_record ys as' n o i h g = omega arith
 decoded_costs (one_record x) ys as' n o i h g = omega arith
 
 module _ (limit : ℕ) (answers : Begun → List Answer) (losses : Begun → Tally → ℕ) (on : (b : Begun) (t : Tally) → 7 * lost_by (answers b) ≤ losses b t) where
-  weighed-costs : (f e : Bool) (ys : List ℕ) (t : Tally) → 7 ≤ t.taken → 7 * lost_by (weighed f e ys answers) ≤ weighed_sum lost_of f e ys t losses
+  weighed_costs : (f e : Bool) (ys : List ℕ) (t : Tally) → 7 ≤ t.taken → 7 * lost_by (weighed f e ys answers) ≤ weighed_sum lost_of f e ys t losses
   unfolding weighed weighed_sum lost_of answer_of lost_in lost_by
-  weighed-costs false e ys t h = omega arith
-  weighed-costs true true ys t h = decoded_costs (decode ys) ys (answers idle) t.taken t.lost (losses idle no_tally) h (on idle no_tally)
-  weighed-costs true false ys t h = on (within ys) t
+  weighed_costs false e ys t h = omega arith
+  weighed_costs true true ys t h = decoded_costs (decode ys) ys (answers idle) t.taken t.lost (losses idle no_tally) h (on idle no_tally)
+  weighed_costs true false ys t h = on (within ys) t
 
-  joined-costs : (k : FrameType) (xs : List ℕ) (z : ℕ) → 7 ≤ z → (b : Begun) (t : Tally) (c : Bool)
+  joined_costs : (k : FrameType) (xs : List ℕ) (z : ℕ) → 7 ≤ z → (b : Begun) (t : Tally) (c : Bool)
       → 7 * lost_by (joined limit k (gather_when c b xs) answers) ≤ joined_sum lost_of limit k (gather_when c b xs) (take_up c b z 0 t) losses
   unfolding joined joined_sum lost_of gather_when take_up
-  joined-costs k xs z h b t true = weighed-costs (leb (length xs) limit) (ends k) xs (tally (t.lost + t.taken) z 0) h
-  joined-costs k xs z h idle t false = on idle (tally (t.lost + z) t.taken t.began)
-  joined-costs k xs z h (within ys) t false =
-      weighed-costs (leb (length (ys ++ xs)) limit) (ends k) (ys ++ xs) (tally t.lost (t.taken + z) t.began) (omega arith)
+  joined_costs k xs z h b t true = weighed_costs (leb (length xs) limit) (ends k) xs (tally (t.lost + t.taken) z 0) h
+  joined_costs k xs z h idle t false = on idle (tally (t.lost + z) t.taken t.began)
+  joined_costs k xs z h (within ys) t false =
+      weighed_costs (leb (length (ys ++ xs)) limit) (ends k) (ys ++ xs) (tally t.lost (t.taken + z) t.began) (omega arith)
 
 loss_costs : (limit : ℕ) (es : List Sized) (b : Begun) (t : Tally) → Sevens es → 7 * lost_by (assemble limit (map unsized es) b) ≤ sum_of lost_of limit es b t
 unfolding assemble sum_of lost_of lost_by lost_in answer_of gather
 loss_costs limit [] b t w = omega arith
 loss_costs limit (corrupted c z ∷ es) b t w = omega (arith, loss_costs limit es idle no_tally w.1, w.0)
 loss_costs limit (good k xs z ∷ es) b t w =
-    joined-costs limit (assemble limit (map unsized es)) (sum_of lost_of limit es) (λ g u. loss_costs limit es g u w.1) k xs z w.0 b t (begins k)
+    joined_costs limit (assemble limit (map unsized es)) (sum_of lost_of limit es) (λ g u. loss_costs limit es g u w.1) k xs z w.0 b t (begins k)
 
 -- ---- of a log
 

@@ -61,9 +61,9 @@ module _ (n limit : ℕ) (rs : List (List ℕ)) (tail : List ℕ) (ht : length t
   abbrev log : List ℕ
   log = laid n rs ++ tail
 
-  some-lost : 0 < blocks log → sum_from lost_of log limit fresh ≡ 0
+  some_lost : 0 < blocks log → sum_from lost_of log limit fresh ≡ 0
   unfolding sum_of lost_of
-  some-lost some =
+  some_lost some =
       sum_sees lost_of lost_blind log limit (fresh-arranged log some) (to_sized log 0 (fresh-arranged log some) seen)
       ∙ ap (λ (es : List Sized). sum_of lost_of limit es idle no_tally) (sized_all 0 (frames_all 0 rs) ∙ sym (append-nil (map sz (frames_all 0 rs))))
       ∙ records limit [] 0 rs hl hd
@@ -82,7 +82,7 @@ module _ (n limit : ℕ) (rs : List (List ℕ)) (tail : List ℕ) (ht : length t
 
   none_lost : (b : Bool) → log_refused log ≡ b → cond b 0 (sum_from lost_of log limit fresh) ≡ 0
   none_lost true e = refl
-  none_lost false e = some-lost (log_taken log e).some
+  none_lost false e = some_lost (log_taken log e).some
 
 pub records_lose_nothing : RecordsLoseNothing
 unfolding lost_bytes sum_over
@@ -203,15 +203,15 @@ module _ (n limit : ℕ) (before after' : List (List ℕ)) (owner tail : List �
       apart [] = refl
       apart (g ∷ fs) = ap (◌∷◌ (sz g)) (apart fs)
 
-  owner-cost : others_of lost f (frames_of p1 owner) ≡ frame_sum pre + frame_sum (keep lost f post)
+  owner_cost : others_of lost f (frames_of p1 owner) ≡ frame_sum pre + frame_sum (keep lost f post)
   unfolding others_of
-  owner-cost =
+  owner_cost =
       ap (others_of lost f) hf
       ∙ ap (λ (b : Bool). cond b (unstruck_bytes lost f (pre ++ (f ∷ post))) 0) (any_struck_lem lost f pre post)
       ∙ owner_bytes lost f p1 pre post stands
 
-  hit-lost : sum_from lost_of hit limit fresh ≡ size + (others_of lost f (frames_of p1 owner) + others_all lost f p2 after')
-  hit-lost =
+  hit_lost : sum_from lost_of hit limit fresh ≡ size + (others_of lost f (frames_of p1 owner) + others_all lost f p2 after')
+  hit_lost =
       let x = hit_sees n limit before after' owner tail pre post f hit hn ht hp hl hb hf hh in
       let a = fresh-arranged hit x.0 in
       sum_sees lost_of lost_blind hit limit a (to_sized hit size a x.1)
@@ -219,7 +219,7 @@ module _ (n limit : ℕ) (before after' : List (List ℕ)) (owner tail : List �
       (sized_frames size (frames_all 0 before ++ pre) (Plain.corrupted (loss_of lost) ∷ map event (keep lost f (post ++ frames_all p2 after')))
       ∙ ap (λ (es : List Sized). map sz (frames_all 0 before ++ pre) ++ (corrupted (loss_of lost) size ∷ es)) (sized_all size (keep lost f (post ++ frames_all p2 after'))))
       ∙ seen-sum
-      ∙ omega (arith, after-sum, owner-cost)
+      ∙ omega (arith, after-sum, owner_cost)
 
 -- ---- lists of calls
 
@@ -235,8 +235,8 @@ module _ (s : State) (before after' : List Listed) (owner : Listed) (w : Standin
   parts : encodings (before ++ (owner ∷ after')) ≡ encodings before ++ (encode owner.written ∷ encodings after')
   parts = encodings_append before (owner ∷ after')
 
-  owns-behind : Owns (place_all 0 (encodings before)) (owner ∷ after')
-  owns-behind = owns_from 0 before (owner ∷ after') w.owns
+  owns_behind : Owns (place_all 0 (encodings before)) (owner ∷ after')
+  owns_behind = owns_from 0 before (owner ∷ after') w.owns
 
   listed : (ls : List Listed) → Formed (records_of (ls ++ (owner ∷ after'))) → Formed (owner.written ∷ records_of after')
   listed [] u = u
@@ -249,15 +249,15 @@ module _ (s : State) (before after' : List Listed) (owner : Listed) (w : Standin
   unfolding lost_bytes sum_over hit_cost others_in
   costs =
       ap (λ (b : Bool). cond b 0 (sum_from lost_of hit limit fresh)) legal
-      ∙ hit-lost w.number limit (encodings before) (encodings after') (encode owner.written) w.tail earlier later f hit w.some w.short
+      ∙ hit_lost w.number limit (encodings before) (encodings after') (encode owner.written) w.tail earlier later f hit w.some w.short
       (subst (λ (rs : List (List ℕ)). place_all 0 rs ≤ w.number * 32768) parts w.room)
       (subst (Each (λ (xs : List ℕ). length xs ≤ limit)) parts (each_limit limit (before ++ (owner ∷ after')) hl))
       (subst (Each Decodes) parts (decoding (before ++ (owner ∷ after')) w.formed))
       (encoded_bytes owner.written (listed before w.formed).0)
-      (sym owns-behind.0 ∙ hf)
+      (sym owns_behind.0 ∙ hf)
       (subst (λ (log : List ℕ). Hit log hit f) (w.log_is ∙ ap (λ (rs : List (List ℕ)). laid w.number rs ++ w.tail) parts) hh)
-      ∙ ap₂ (λ (i j : ℕ). hit_size (type_lost hit f) f + (i + j)) (ap (others_of (type_lost hit f) f) (sym owns-behind.0))
-      (others-listed (type_lost hit f) f (place_after (place_all 0 (encodings before)) (encode owner.written)) after' owns-behind.1)
+      ∙ ap₂ (λ (i j : ℕ). hit_size (type_lost hit f) f + (i + j)) (ap (others_of (type_lost hit f) f) (sym owns_behind.0))
+      (others-listed (type_lost hit f) f (place_after (place_all 0 (encodings before)) (encode owner.written)) after' owns_behind.1)
 
 pub states_hit_costs : StatesHitCosts
 states_hit_costs h s r before after' owner earlier later f hit limit e hf hh hl =

@@ -65,19 +65,19 @@ taken_on (one_record x) as' h = h
 
 module _ (n limit : ℕ) (answers : Begun → List Answer) (lost given : Begun → Tally → ℕ)
     (on : (b : Begun) (t : Tally) → Taken (answers b) → lost b t + given b t ≡ t.lost + t.taken + n) where
-  weighed-once : (f e : Bool) (ys : List ℕ) (t : Tally) → Taken (weighed f e ys answers)
+  weighed_once : (f e : Bool) (ys : List ℕ) (t : Tally) → Taken (weighed f e ys answers)
       → weighed_sum lost_of f e ys t lost + weighed_sum given_of f e ys t given ≡ t.lost + t.taken + n
   unfolding weighed weighed_sum lost_of given_of answer_of refused_in
-  weighed-once false e ys t h = absurd (true≢false h)
-  weighed-once true true ys t h =
+  weighed_once false e ys t h = absurd (true≢false h)
+  weighed_once true true ys t h =
       omega (arith, on idle no_tally (taken_on (decode ys) (map answer_of (answers idle)) h), one_or_other (decode ys) t.taken)
-  weighed-once true false ys t h = on (within ys) t h
+  weighed_once true false ys t h = on (within ys) t h
 
   joined_once : (k : FrameType) (g : Begun) (t : Tally) → Taken (joined limit k g answers)
       → joined_sum lost_of limit k g t lost + joined_sum given_of limit k g t given ≡ t.lost + t.taken + n
   unfolding joined joined_sum
   joined_once k idle t h = on idle t h
-  joined_once k (within ys) t h = weighed-once (leb (length ys) limit) (ends k) ys t h
+  joined_once k (within ys) t h = weighed_once (leb (length ys) limit) (ends k) ys t h
 
 once : (limit : ℕ) (es : List Sized) (b : Begun) (t : Tally) → Taken (assemble limit (map unsized es) b)
     → sum_of lost_of limit es b t + sum_of given_of limit es b t ≡ t.lost + t.taken + sizes es

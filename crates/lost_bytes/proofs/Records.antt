@@ -113,17 +113,17 @@ module _ (limit : ℕ) (c : Corruption) (n : ℕ) (es : List Sized) (f : Frame) 
   abbrev rest : ℕ
   rest = sum_of lost_of limit es idle no_tally
 
-  broken-rest : (pre : List Frame) (ys : List ℕ) (l o q : ℕ) → Kinds false (pre ++ (f ∷ post)) → length ys + length (contents_of (pre ++ (f ∷ post))) ≤ limit
+  broken_rest : (pre : List Frame) (ys : List ℕ) (l o q : ℕ) → Kinds false (pre ++ (f ∷ post)) → length ys + length (contents_of (pre ++ (f ∷ post))) ≤ limit
       → sum_of lost_of limit (map sz pre ++ (corrupted c n ∷ es)) (within ys) (tally l o q) ≡ l + o + frame_sum pre + n + rest
   unfolding sum_of weighed_sum contents_of lost_of frame_sum
-  broken-rest [] ys l o q k h = omega arith
-  broken-rest (g ∷ pre) ys l o q k h =
+  broken_rest [] ys l o q k h = omega arith
+  broken_rest (g ∷ pre) ys l o q k h =
       let kh = kinds_head false g pre f post k in
       let z : ℕ = 7 + length g.content in
       goes_on_lem limit g.kind g.content z l (sum_of lost_of limit (map sz pre ++ (corrupted c n ∷ es))) ys o q (ap begins kh.0 ∙ begins_kind false false)
       (omega (arith, length-append g.content (contents_of (pre ++ (f ∷ post)))))
       ∙ ap (λ (b : Bool). weighed_sum lost_of true b (ys ++ g.content) (tally l (o + z) q) (sum_of lost_of limit (map sz pre ++ (corrupted c n ∷ es)))) (ap ends kh.0 ∙ ends_kind false false)
-      ∙ broken-rest pre (ys ++ g.content) l (o + z) q kh.1
+      ∙ broken_rest pre (ys ++ g.content) l (o + z) q kh.1
       (omega (arith, length-append g.content (contents_of (pre ++ (f ∷ post))), length-append ys g.content))
       ∙ omega arith
 
@@ -137,7 +137,7 @@ module _ (limit : ℕ) (c : Corruption) (n : ℕ) (es : List Sized) (f : Frame) 
       opens limit g.kind g.content z 0 (sum_of lost_of limit (map sz pre ++ (corrupted c n ∷ es))) 0 (ap begins kh.0 ∙ begins_kind true false)
       (omega (arith, length-append g.content (contents_of (pre ++ (f ∷ post)))))
       ∙ ap (λ (b : Bool). weighed_sum lost_of true b g.content (tally 0 z 0) (sum_of lost_of limit (map sz pre ++ (corrupted c n ∷ es)))) (ap ends kh.0 ∙ ends_kind true false)
-      ∙ broken-rest pre g.content 0 z 0 kh.1 (omega (arith, length-append g.content (contents_of (pre ++ (f ∷ post)))))
+      ∙ broken_rest pre g.content 0 z 0 kh.1 (omega (arith, length-append g.content (contents_of (pre ++ (f ∷ post)))))
       ∙ omega arith
 
 -- ---- frames that begin nothing
@@ -184,17 +184,17 @@ module _ (lost : Bool) (h : Frame) where
       go false e = ap (λ (n : ℕ). 7 + length f.content + n) e
 
   -- a record of which no frame is struck, and one of which the first is
-  none-struck : (fs : List Frame) → any_struck lost h fs ≡ false → others_of lost h fs ≡ 0
+  none_struck : (fs : List Frame) → any_struck lost h fs ≡ false → others_of lost h fs ≡ 0
   unfolding others_of
-  none-struck fs z = ap (λ (b : Bool). cond b (unstruck_bytes lost h fs) 0) z
+  none_struck fs z = ap (λ (b : Bool). cond b (unstruck_bytes lost h fs) 0) z
 
-  drops-first : (f : Frame) (fs : List Frame) → struck lost h f ≡ true → keep lost h (f ∷ fs) ≡ keep lost h fs
+  drops_first : (f : Frame) (fs : List Frame) → struck lost h f ≡ true → keep lost h (f ∷ fs) ≡ keep lost h fs
   unfolding keep
-  drops-first f fs z = ap (λ (b : Bool). cond b (keep lost h fs) (f ∷ keep lost h fs)) z
+  drops_first f fs z = ap (λ (b : Bool). cond b (keep lost h fs) (f ∷ keep lost h fs)) z
 
-  others-first : (f : Frame) (fs : List Frame) → struck lost h f ≡ true → others_of lost h (f ∷ fs) ≡ frame_sum (keep lost h fs)
+  others_first : (f : Frame) (fs : List Frame) → struck lost h f ≡ true → others_of lost h (f ∷ fs) ≡ frame_sum (keep lost h fs)
   unfolding others_of any_struck unstruck_bytes
-  others-first f fs z =
+  others_first f fs z =
       let n : 0 + unstruck_bytes lost h fs ≡ unstruck_bytes lost h fs = omega arith in
       ap (λ (b : Bool). cond (b || any_struck lost h fs) (cond b 0 (7 + length f.content) + unstruck_bytes lost h fs) 0) z ∙ n ∙ sym (kept_bytes_lem fs)
 
@@ -215,12 +215,12 @@ module _ (lost : Bool) (h : Frame) where
         go (inl z) =
             ap (λ (gs : List Frame). sum_of lost_of limit (map sz gs ++ es) idle (tally l 0 q)) (keep_id lost h (f ∷ fs) z)
             ∙ whole_record limit es (f ∷ fs) l q k m d
-            ∙ omega (arith, none-struck (f ∷ fs) z, on 0 0)
+            ∙ omega (arith, none_struck (f ∷ fs) z, on 0 0)
         go (inr z) =
-            ap (λ (gs : List Frame). sum_of lost_of limit (map sz gs ++ es) idle (tally l 0 q)) (drops-first f fs z)
+            ap (λ (gs : List Frame). sum_of lost_of limit (map sz gs ++ es) idle (tally l 0 q)) (drops_first f fs z)
             ∙ skip limit es (keep lost h fs) l q (continuing_keep lost h fs (continuing_behind true f fs [] k))
             ∙ on (l + frame_sum (keep lost h fs)) q
-            ∙ omega (arith, others-first f fs z)
+            ∙ omega (arith, others_first f fs z)
 
     pub spared_records : (p : ℕ) (rs : List (List ℕ)) (l q : ℕ) → h.start < p → Each (λ xs. length xs ≤ limit) rs → Each Decodes rs
         → sum_of lost_of limit (map sz (keep lost h (frames_all p rs))) idle (tally l 0 q) ≡ l + others_all p rs

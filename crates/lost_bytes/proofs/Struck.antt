@@ -31,18 +31,18 @@ module _ (lost : Bool) (h : Frame) where
   struck-append [] gs = omega arith
   struck-append (f ∷ fs) gs = omega (arith, struck-append fs gs)
 
-  none-struck : (fs : List Frame) → any_struck lost h fs ≡ false → struck_bytes lost h fs ≡ 0
+  none_struck : (fs : List Frame) → any_struck lost h fs ≡ false → struck_bytes lost h fs ≡ 0
   unfolding struck_bytes any_struck
-  none-struck [] e = refl
-  none-struck (f ∷ fs) e = go (struck lost h f) e (none-struck fs)
+  none_struck [] e = refl
+  none_struck (f ∷ fs) e = go (struck lost h f) e (none_struck fs)
     where
       go : (b : Bool) → b || any_struck lost h fs ≡ false → (any_struck lost h fs ≡ false → struck_bytes lost h fs ≡ 0)
           → cond b (7 + length f.content) 0 + struck_bytes lost h fs ≡ 0
       go true e on = absurd (false≢true (sym e))
       go false e on = omega (arith, on e)
 
-  one-most : (f : Frame) → cond (struck lost h f) (7 + length f.content) 0 ≤ 7 + length f.content
-  one-most f = go (struck lost h f)
+  one_most : (f : Frame) → cond (struck lost h f) (7 + length f.content) 0 ≤ 7 + length f.content
+  one_most f = go (struck lost h f)
     where
       go : (b : Bool) → cond b (7 + length f.content) 0 ≤ 7 + length f.content
       go true = omega arith
@@ -61,9 +61,9 @@ later_within h p (f ∷ fs) l s u =
         → (p + padding p < suc (h.start / 32768) * 32768 → after p f + struck_bytes true h fs ≤ suc (h.start / 32768) * 32768)
         → p + (cond (struck true h f) (7 + length f.content) 0 + struck_bytes true h fs) ≤ suc (h.start / 32768) * 32768
     go (inl g) on =
-        let z : struck_bytes true h (f ∷ fs) ≡ 0 = none-struck true h (f ∷ fs) (none_later true h p (f ∷ fs) l s (λ e. omega (arith, g))) in
+        let z : struck_bytes true h (f ∷ fs) ≡ 0 = none_struck true h (f ∷ fs) (none_later true h p (f ∷ fs) l s (λ e. omega (arith, g))) in
         omega (arith, z)
-    go (inr g) on = omega (arith, on g, one-most true h f)
+    go (inr g) on = omega (arith, on g, one_most true h f)
 
 -- ---- the frames of the owner and of the records after it
 
@@ -90,7 +90,7 @@ module _ (p : ℕ) (f : Frame) (pre later : List Frame) (l : Laid p (pre ++ (f �
 
   within : (lost : Bool) → struck_bytes lost f (pre ++ (f ∷ later)) ≤ hit_size lost f
   unfolding hit_size
-  within false = omega (arith, whole false, none-struck false f later (none_later false f (after (end_of p pre) f) later behind (omega (arith, stands.starts)) (λ e. absurd (false≢true e))))
+  within false = omega (arith, whole false, none_struck false f later (none_later false f (after (end_of p pre) f) later behind (omega (arith, stands.starts)) (λ e. absurd (false≢true e))))
   within true =
       let w = later_within f (after (end_of p pre) f) later behind (omega (arith, stands.starts)) (omega (arith, stands.starts, stands.fits)) in
       omega (arith, whole true, w, stands.starts)
@@ -98,7 +98,7 @@ module _ (p : ℕ) (f : Frame) (pre later : List Frame) (l : Laid p (pre ++ (f �
   alone : (lost : Bool) → lost ≡ false → struck_bytes lost f (pre ++ (f ∷ later)) ≡ hit_size lost f
   unfolding hit_size
   alone true e = absurd (false≢true (sym e))
-  alone false e = omega (arith, whole false, none-struck false f later (none_later false f (after (end_of p pre) f) later behind (omega (arith, stands.starts)) (λ e. absurd (false≢true e))))
+  alone false e = omega (arith, whole false, none_struck false f later (none_later false f (after (end_of p pre) f) later behind (omega (arith, stands.starts)) (λ e. absurd (false≢true e))))
 
 -- ---- lists of calls
 

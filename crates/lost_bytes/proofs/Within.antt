@@ -51,23 +51,23 @@ undecoded_most no_record n = omega arith
 undecoded_most (one_record x) n = omega arith
 
 module _ (n limit : ℕ) (go : Begun → Tally → ℕ) (h : (b : Begun) (t : Tally) → go b t ≤ t.lost + t.taken + n) where
-  weighed-most : (f e : Bool) (ys : List ℕ) (t : Tally) → weighed_sum lost_of f e ys t go ≤ t.lost + t.taken + n
+  weighed_most : (f e : Bool) (ys : List ℕ) (t : Tally) → weighed_sum lost_of f e ys t go ≤ t.lost + t.taken + n
   unfolding weighed_sum lost_of
-  weighed-most false e ys t = omega arith
-  weighed-most true true ys t = omega (arith, h idle no_tally, undecoded_most (decode ys) t.taken)
-  weighed-most true false ys t = h (within ys) t
+  weighed_most false e ys t = omega arith
+  weighed_most true true ys t = omega (arith, h idle no_tally, undecoded_most (decode ys) t.taken)
+  weighed_most true false ys t = h (within ys) t
 
-  joined-most : (k : FrameType) (g : Begun) (t : Tally) → joined_sum lost_of limit k g t go ≤ t.lost + t.taken + n
+  joined_most : (k : FrameType) (g : Begun) (t : Tally) → joined_sum lost_of limit k g t go ≤ t.lost + t.taken + n
   unfolding joined_sum lost_of
-  joined-most k idle t = h idle t
-  joined-most k (within ys) t = weighed-most (leb (length ys) limit) (ends k) ys t
+  joined_most k idle t = h idle t
+  joined_most k (within ys) t = weighed_most (leb (length ys) limit) (ends k) ys t
 
 loss_most : (limit : ℕ) (es : List Sized) (b : Begun) (t : Tally) → sum_of lost_of limit es b t ≤ t.lost + t.taken + sizes es
 unfolding sum_of lost_of sizes size_at
 loss_most limit [] b t = omega arith
 loss_most limit (corrupted c z ∷ es) b t = omega (arith, loss_most limit es idle no_tally)
 loss_most limit (good k xs z ∷ es) b t =
-    omega (arith, joined-most (sizes es) limit (sum_of lost_of limit es) (loss_most limit es) k (gather b k xs) (take_up (begins k) b z 0 t), take-total (begins k) b z 0 t)
+    omega (arith, joined_most (sizes es) limit (sum_of lost_of limit es) (loss_most limit es) k (gather b k xs) (take_up (begins k) b z 0 t), take-total (begins k) b z 0 t)
 
 -- ---- of a log
 

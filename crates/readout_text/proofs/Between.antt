@@ -49,9 +49,9 @@ module _ (input scratch scratch' ns ps ks t : List ℕ) (m' : Memory) (ks' : Lis
   pub as_replayed : 1024 ≤ length ks → ReplayKept input scratch (lent_to ns ps t) ks a scratch' m' ks' → QueuesReplayed input scratch (lent_to ns ps t) a scratch' m'
   as_replayed long k = queues_kept input (lent_to ns ps t) ks (λ _. as_long long) scratch scratch' m' a ks' k
 
-  table-left : log_refused input ≡ false → 1024 ≤ length ks → ReplayKept input scratch (lent_to ns ps t) ks a scratch' m' ks' → ks' ≡ kept_left ks m'
+  table_left_lem : log_refused input ≡ false → 1024 ≤ length ks → ReplayKept input scratch (lent_to ns ps t) ks a scratch' m' ks' → ks' ≡ kept_left ks m'
   unfolding kept_when
-  table-left legal long k =
+  table_left_lem legal long k =
       let e : ks' ≡ table_left (taken input) ks m' = k.largest_left ∙ sym (table_kept_lem input (lent_to ns ps t) ks (λ _. as_long long) scratch scratch' m' a (as_replayed long k)).largest_left in
       e ∙ ap (λ (b : Bool). table_left (cond b 0 1) ks m') legal
 
@@ -66,11 +66,11 @@ module _ (log scratch scratch' : List ℕ) (m m' : Memory) (a : ReplayAnswer) (l
   abbrev given : Outcome
   given = replay_of log (capacities m) (length scratch)
 
-  abbrev lost-in : ℕ
-  lost-in = lost_in (readings log (length scratch))
+  abbrev lost_in_lem : ℕ
+  lost_in_lem = lost_in (readings log (length scratch))
 
-  abbrev bytes-in : ℕ
-  bytes-in = lost_bytes log (length scratch)
+  abbrev bytes_in : ℕ
+  bytes_in = lost_bytes log (length scratch)
 
   abbrev place_in_lem : ℕ
   place_in_lem = resume log (length scratch)
@@ -78,7 +78,7 @@ module _ (log scratch scratch' : List ℕ) (m m' : Memory) (a : ReplayAnswer) (l
   pub leaves : Leaves m m' (outcome_queues given)
   leaves = subst (λ (b : Bool). QueuesLeft b m m' (outcome_queues given)) legal w.memory_left
 
-  pub answers : a ≡ replay_answer (replayed_by given lost-in bytes-in place_in_lem)
+  pub answers : a ≡ replay_answer (replayed_by given lost_in_lem bytes_in place_in_lem)
   unfolding replay_call
   answers = w.answer
 
@@ -91,7 +91,7 @@ module _ (log scratch scratch' : List ℕ) (m m' : Memory) (a : ReplayAnswer) (l
     record {
       a_block = omega (arith, (log_taken log legal).some);
       few_blocks = (log_taken log legal).most;
-      inside = subst (λ (x : ReplayAnswer). (numbers_of x).resumed ≤ length log) (sym answers) (told_inside given lost-in bytes-in place_in_lem (length log) place_inside);
+      inside = subst (λ (x : ReplayAnswer). (numbers_of x).resumed ≤ length log) (sym answers) (told_inside given lost_in_lem bytes_in place_in_lem (length log) place_inside);
     },
   )
 
@@ -105,11 +105,11 @@ abbrev pub both_told : List ℕ → List ℕ → List ℕ → Listed
 both_told out xs ys = listed (length (written out 0 xs)) (behind (length (written out 0 xs)) (behind (length out) 0 (length xs)) (length ys))
 
 module _ (out xs ys : List ℕ) where
-  both-wrote : Wrote out 0 (xs ++ ys) (behind (length (written out 0 xs)) (behind (length out) 0 (length xs)) (length ys)) (both_in out xs ys)
-  both-wrote = on (wrote {xs = xs} refl refl) (wrote {xs = ys} refl refl)
+  both_wrote : Wrote out 0 (xs ++ ys) (behind (length (written out 0 xs)) (behind (length out) 0 (length xs)) (length ys)) (both_in out xs ys)
+  both_wrote = on (wrote {xs = xs} refl refl) (wrote {xs = ys} refl refl)
 
-  both-answer : both_told out xs ys ≡ listed (length out) (length (xs ++ ys))
-  both-answer = ap₂ listed (length-written out 0 xs) both-wrote.place ∙ listed-behind (length out) (length (xs ++ ys))
+  both_answer : both_told out xs ys ≡ listed (length out) (length (xs ++ ys))
+  both_answer = ap₂ listed (length-written out 0 xs) both_wrote.place ∙ listed-behind (length out) (length (xs ++ ys))
 
   both_long : length (both_in out xs ys) ≡ length out
   both_long = length-written (written out 0 xs) (behind (length out) 0 (length xs)) ys ∙ length-written out 0 xs
@@ -129,13 +129,13 @@ module _ (out : List ℕ) (clear : out ≡ zeros (length out)) (shifts : List �
   unfolding closed_answer numbers_of replay_answer replay_answer_by replayed_by outcome_queues text_for text_by listed_by
   answer_by (refused k) e = ap (λ (z : ℕ). listed z (length (refusal k))) (both_long out marks (listing (meaning m') 0 0 n))
   answer_by (left qs) e =
-      both-answer out marks (listing (meaning m') bytes p n) ∙ ap (λ (q : List Queue). listed (length out) (length (marks ++ listing q bytes p n))) e
+      both_answer out marks (listing (meaning m') bytes p n) ∙ ap (λ (q : List Queue). listed (length out) (length (marks ++ listing q bytes p n))) e
 
-  text-by : (o : Outcome) → meaning m' ≡ outcome_queues o → closed_text (replay_answer (replayed_by o lost bytes p)) (both_in out marks (shown o)) ≡ written out 0 (text o)
+  text_by_lem : (o : Outcome) → meaning m' ≡ outcome_queues o → closed_text (replay_answer (replayed_by o lost bytes p)) (both_in out marks (shown o)) ≡ written out 0 (text o)
   unfolding closed_text numbers_of replay_answer replay_answer_by replayed_by outcome_queues text_for text_by listed_by
-  text-by (refused k) e =
+  text_by_lem (refused k) e =
       ap (λ (z : ℕ). written (zeros z) 0 (refusal k)) (both_long out marks (listing (meaning m') 0 0 n)) ∙ ap (λ (s : List ℕ). written s 0 (refusal k)) (sym clear)
-  text-by (left qs) e = (both-wrote out marks (listing (meaning m') bytes p n)).buffer ∙ ap (λ (q : List Queue). written out 0 (marks ++ listing q bytes p n)) e
+  text_by_lem (left qs) e = (both_wrote out marks (listing (meaning m') bytes p n)).buffer ∙ ap (λ (q : List Queue). written out 0 (marks ++ listing q bytes p n)) e
 
 zero_scratch : (log s s' : List ℕ) → log_refused log ≡ false → s' ≡ replay_scratch log s → s' ≡ zeros (length s)
 unfolding replay_scratch
@@ -166,9 +166,9 @@ card_kept input scratch ns ps ks t out a scratch' ns' ps' es' ks' t' legal long 
           ap₂ (λ (x : ReplayAnswer) (i : ℕ). closed_answer x (both_told out (marks_text input i) (shown_in x m' n)) (length (both_in out (marks_text input i) (shown_in x m' n)))) e z
           ∙ answer_by out clear shifts m' lost bytes p n o l.means;
       text_left =
-          ap₂ (λ (x : ReplayAnswer) (i : ℕ). closed_text x (both_in out (marks_text input i) (shown_in x m' n))) e z ∙ text-by out clear shifts m' lost bytes p n o l.means;
+          ap₂ (λ (x : ReplayAnswer) (i : ℕ). closed_text x (both_in out (marks_text input i) (shown_in x m' n))) e z ∙ text_by_lem out clear shifts m' lost bytes p n o l.means;
       scratch_left = ap zeros z;
       entries = es';
       memory_left = l;
-      largest_left = table-left input scratch scratch' ns ps ks t m' ks' a legal long k;
+      largest_left = table_left_lem input scratch scratch' ns ps ks t m' ks' a legal long k;
     }

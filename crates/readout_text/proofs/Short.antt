@@ -51,15 +51,15 @@ first_short = let l : length (refusal 1) ≡ 10 = refl in omega (arith, l)
 -- ---- a listing
 
 module _ (input : List ℕ) (b : Bytes input) (h : 32768 ≤ length input) (k : length input ≤ 65536) where
-  abbrev lost-here : ℕ
-  lost-here = lost_bytes input readout_scratch
+  abbrev lost_here : ℕ
+  lost_here = lost_bytes input readout_scratch
 
   abbrev place_here : ℕ
   place_here = resume input readout_scratch
 
-  few-lost : lost-here < 2 ^ 64
-  few-lost =
-      let q : lost-here ≤ blocks input * 32768 = lost_within input readout_scratch in
+  few_lost : lost_here < 2 ^ 64
+  few_lost =
+      let q : lost_here ≤ blocks input * 32768 = lost_within input readout_scratch in
       let m : blocks input ≤ 2 = omega (arith, k) in
       omega (arith, q, m)
 
@@ -69,20 +69,20 @@ module _ (input : List ℕ) (b : Bytes input) (h : 32768 ≤ length input) (k : 
       let p : place_here ≤ blocks input * 32768 = resumes_in_log input readout_scratch t.some in
       record { a_block = h; few_blocks = t.most; inside = omega (arith, p) }
 
-  abbrev shifts-here : List ℕ
-  shifts-here = marks_in (readings input readout_scratch)
+  abbrev shifts_here : List ℕ
+  shifts_here = marks_in (readings input readout_scratch)
 
-  few-marks : length (shift_lines shifts-here) ≤ 252774
-  few-marks =
-      let q : length shifts-here ≤ blocks input * 4681 = marks_bound input readout_scratch in
+  few_marks : length (shift_lines shifts_here) ≤ 252774
+  few_marks =
+      let q : length shifts_here ≤ blocks input * 4681 = marks_bound input readout_scratch in
       let m : blocks input ≤ 2 = omega (arith, k) in
-      omega (arith, shifts_short shifts-here (marks_fit input readout_scratch b), q, m)
+      omega (arith, shifts_short shifts_here (marks_fit input readout_scratch b), q, m)
 
-  text-short : (o : Outcome) → replay_of input readout_room readout_scratch ≡ o
-      → length (text_for (replayed_by o (lost_in (readings input readout_scratch)) lost-here place_here) (listed_by o shifts-here) (length input)) ≤ 420235
+  text_short : (o : Outcome) → replay_of input readout_room readout_scratch ≡ o
+      → length (text_for (replayed_by o (lost_in (readings input readout_scratch)) lost_here place_here) (listed_by o shifts_here) (length input)) ≤ 420235
   unfolding text_for text_by replayed_by queues_arranged listed_by
-  text-short (refused n) e = refusal_short n ((replay_never_six input readout_room readout_scratch).others (log_sized input h k) n e)
-  text-short (left qs) e =
+  text_short (refused n) e = refusal_short n ((replay_never_six input readout_room readout_scratch).others (log_sized input h k) n e)
+  text_short (left qs) e =
       let q1 : Bool = leb (length qs) 64 in
       let q2 : Bool = leb (name_bytes qs) 32768 in
       let q3 : Bool = leb (record_count qs) 1024 in
@@ -91,15 +91,15 @@ module _ (input : List ℕ) (b : Bytes input) (h : 32768 ≤ length input) (k : 
       let w1 : q1 && (q2 && (q3 && q4)) ≡ true = and_right (in_order qs) (q1 && (q2 && (q3 && q4))) w in
       let w2 : q2 && (q3 && q4) ≡ true = and_right q1 (q2 && (q3 && q4)) w1 in
       let w3 : q3 && q4 ≡ true = and_right q2 (q3 && q4) w2 in
-      let s : length (listing qs lost-here place_here (length input)) ≤ 167461 =
-      listing_short qs lost-here place_here (length input) (and_left (in_order qs) (q1 && (q2 && (q3 && q4))) w)
+      let s : length (listing qs lost_here place_here (length input)) ≤ 167461 =
+      listing_short qs lost_here place_here (length input) (and_left (in_order qs) (q1 && (q2 && (q3 && q4))) w)
       (leb-true (length qs) 64 (and_left q1 (q2 && (q3 && q4)) w1)) (leb-true (record_count qs) 1024 (and_left q3 q4 w3))
-      (leb-true (name_bytes qs) 32768 (and_left q2 (q3 && q4) w2)) (leb-true (payload_bytes qs) 32768 (and_right q3 q4 w3)) few-lost fits in
-      omega (arith, length-append (shift_lines shifts-here) (listing qs lost-here place_here (length input)), few-marks, s)
+      (leb-true (name_bytes qs) 32768 (and_left q2 (q3 && q4) w2)) (leb-true (payload_bytes qs) 32768 (and_right q3 q4 w3)) few_lost fits in
+      omega (arith, length-append (shift_lines shifts_here) (listing qs lost_here place_here (length input)), few_marks, s)
 
-  sized-short : length (sized_text input) ≤ 420235
+  sized_short : length (sized_text input) ≤ 420235
   unfolding sized_text text_in replay_call marks_listed
-  sized-short = text-short (replay_of input readout_room readout_scratch) refl
+  sized_short = text_short (replay_of input readout_room readout_scratch) refl
 
 -- ---- every card
 
@@ -107,7 +107,7 @@ short_on : (input : List ℕ) → Bytes input → (s : Bool) → not_sized input
 unfolding not_sized
 short_on input b true e = first_short
 short_on input b false e =
-    sized-short input b (ltb-false (length input) 32768 (or_left (ltb (length input) 32768) (ltb 65536 (length input)) e))
+    sized_short input b (ltb-false (length input) 32768 (or_left (ltb (length input) 32768) (ltb 65536 (length input)) e))
     (ltb-false 65536 (length input) (or_right (ltb (length input) 32768) (ltb 65536 (length input)) e))
 
 pub card_short : CardShort

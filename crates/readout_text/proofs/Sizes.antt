@@ -79,11 +79,11 @@ still_clear s t e = e ∙ ap zeros (sym (clear_long s t e))
 
 -- the text x of the card is y
 module _ (x y s t : List ℕ) (r : Listed) (u : List ℕ) (e : x ≡ y) (clear : t ≡ zeros (length s)) where
-  answer-as : r ≡ listed (length t) (length y) → r ≡ listed (length s) (length x)
-  answer-as w = w ∙ ap₂ (λ (k : ℕ) (z : List ℕ). listed k (length z)) (clear_long s t clear) (sym e)
+  answer_as : r ≡ listed (length t) (length y) → r ≡ listed (length s) (length x)
+  answer_as w = w ∙ ap₂ (λ (k : ℕ) (z : List ℕ). listed k (length z)) (clear_long s t clear) (sym e)
 
   pub refused_as : (r ≡ listed (length t) (length y)) × (u ≡ written t 0 y) → (r ≡ listed (length s) (length x)) × (u ≡ written (zeros (length s)) 0 x)
-  refused_as w = (answer-as w.0, w.1 ∙ ap₂ (λ (o z : List ℕ). written o 0 z) clear (sym e))
+  refused_as w = (answer_as w.0, w.1 ∙ ap₂ (λ (o z : List ℕ). written o 0 z) clear (sym e))
 
   pub sized_as : (r ≡ listed (length t) (length y)) × (u ≡ written (zeros (length t)) 0 y) → (r ≡ listed (length s) (length x)) × (u ≡ written (zeros (length s)) 0 x)
-  sized_as w = (answer-as w.0, w.1 ∙ ap₂ (λ (k : ℕ) (z : List ℕ). written (zeros k) 0 z) (clear_long s t clear) (sym e))
+  sized_as w = (answer_as w.0, w.1 ∙ ap₂ (λ (k : ℕ) (z : List ℕ). written (zeros k) 0 z) (clear_long s t clear) (sym e))

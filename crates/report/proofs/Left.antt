@@ -58,41 +58,41 @@ same_bytes_lem [] = refl
 same_bytes_lem (w ∷ ws) = ap (λ (l : List ℕ). le_bytes 8 w ++ l) (same_bytes_lem ws)
 
 module _ (report log : List ℕ) (p : FeedPassed report log) where
-  fed-numbers-ok : NumbersOk (plus (report_numbers report) (tally (frames_read log)))
-  fed-numbers-ok = fed_ok (report_numbers report) log p.ok.numbers p.room p.sized.some p.sized.most
+  fed-numbers_ok : NumbersOk (plus (report_numbers report) (tally (frames_read log)))
+  fed-numbers_ok = fed_ok (report_numbers report) log p.ok.numbers p.room p.sized.some p.sized.most
 
-  fed-long : length (plus (report_numbers report) (tally (frames_read log))) ≡ 12
-  fed-long = length-fed (report_numbers report) log (length-numbers report)
+  fed_long : length (plus (report_numbers report) (tally (frames_read log))) ≡ 12
+  fed_long = length-fed (report_numbers report) log (length-numbers report)
 
   pub numbers_fit : (ws : List ℕ) → ws ≡ report_numbers report → NumbersFit ws log
   numbers_fit ws e = subst (λ (ws : List ℕ). NumbersFit ws log) (sym e) (record {
     twelve = length-numbers report;
-    small = λ i. omega (arith, ok_small (plus (report_numbers report) (tally (frames_read log))) fed-long fed-numbers-ok i);
+    small = λ i. omega (arith, ok_small (plus (report_numbers report) (tally (frames_read log))) fed_long fed-numbers_ok i);
   })
 
   pub fed_numbers : report_numbers (fed_report report log) ≡ plus (report_numbers report) (tally (frames_read log))
   unfolding report_numbers fed_report
   fed_numbers =
       ap (words_from 12) (same_bytes_lem ws ∙ sym (append-nil (word_bytes ws)))
-      ∙ ap (λ (n : ℕ). words_from n (word_bytes ws ++ [])) (sym fed-long)
-      ∙ words_back ws [] (λ i. omega (arith, ok_small ws fed-long fed-numbers-ok i))
+      ∙ ap (λ (n : ℕ). words_from n (word_bytes ws ++ [])) (sym fed_long)
+      ∙ words_back ws [] (λ i. omega (arith, ok_small ws fed_long fed-numbers_ok i))
     where
       ws : List ℕ
       ws = plus (words_from 12 report) (tally (frames_read log))
 
   pub fed_length : length (fed_report report log) ≡ 96
   unfolding fed_report
-  fed_length = omega (arith, ap length (same_bytes_lem (plus (report_numbers report) (tally (frames_read log)))), length-word_bytes (plus (report_numbers report) (tally (frames_read log))), fed-long)
+  fed_length = omega (arith, ap length (same_bytes_lem (plus (report_numbers report) (tally (frames_read log)))), length-word_bytes (plus (report_numbers report) (tally (frames_read log))), fed_long)
 
   pub fed_arranged : report_arranged (fed_report report log) ≡ true
   unfolding report_arranged
   fed_arranged =
-      both (eq-eqb (length (fed_report report log)) 96 fed_length) (ap numbers_arranged fed_numbers ∙ ok_numbers (plus (report_numbers report) (tally (frames_read log))) fed-numbers-ok)
+      both (eq-eqb (length (fed_report report log)) 96 fed_length) (ap numbers_arranged fed_numbers ∙ ok_numbers (plus (report_numbers report) (tally (frames_read log))) fed-numbers_ok)
 
   -- as the code stores it
   module _ (ns ws : List ℕ) (en : ns ≡ report_numbers report) (ew : ws ≡ plus ns (tally (frames_read log))) where
     pub pack_room : 8 * length ws ≤ length report
-    pack_room = omega (arith, ap length ew, ap (λ (l : List ℕ). length (plus l (tally (frames_read log)))) en, fed-long, p.ok.long)
+    pack_room = omega (arith, ap length ew, ap (λ (l : List ℕ). length (plus l (tally (frames_read log)))) en, fed_long, p.ok.long)
 
     pub stored : (after : List ℕ) → WordsStored ws report after → after ≡ fed_report report log
     unfolding fed_report
@@ -101,7 +101,7 @@ module _ (report log : List ℕ) (p : FeedPassed report log) where
         ∙ ap (λ (l : List ℕ). word_bytes ws ++ l)
         (ap (λ (n : ℕ). drop n report)
         (let z : 8 * length ws ≡ length report
-        = omega (arith, ap length ew, ap (λ (l : List ℕ). length (plus l (tally (frames_read log)))) en, fed-long, p.ok.long) in z)
+        = omega (arith, ap length ew, ap (λ (l : List ℕ). length (plus l (tally (frames_read log)))) en, fed_long, p.ok.long) in z)
         ∙ drop-length report)
         ∙ append-nil (word_bytes ws)
         ∙ sym (same_bytes_lem ws)

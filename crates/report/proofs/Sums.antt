@@ -103,13 +103,13 @@ all_arranged report (log ∷ logs) a = all_arranged (feed_left report log) logs 
 -- ---- which logs are kept
 
 module _ (report log : List ℕ) (logs : List (List ℕ)) where
-  sized-not : log_refused log ≡ true → logs_sized (log ∷ logs) ≡ logs_sized logs
+  sized_not : log_refused log ≡ true → logs_sized (log ∷ logs) ≡ logs_sized logs
   unfolding logs_sized
-  sized-not e = ap (λ (b : Bool). cond b (logs_sized logs) (log ∷ logs_sized logs)) e
+  sized_not e = ap (λ (b : Bool). cond b (logs_sized logs) (log ∷ logs_sized logs)) e
 
-  sized-log : log_refused log ≡ false → logs_sized (log ∷ logs) ≡ log ∷ logs_sized logs
+  sized_log : log_refused log ≡ false → logs_sized (log ∷ logs) ≡ log ∷ logs_sized logs
   unfolding logs_sized
-  sized-log e = ap (λ (b : Bool). cond b (logs_sized logs) (log ∷ logs_sized logs)) e
+  sized_log e = ap (λ (b : Bool). cond b (logs_sized logs) (log ∷ logs_sized logs)) e
 
 take-one : (m n : ℕ) (log : List ℕ) (ls : List (List ℕ)) → m ≡ suc n → take m (log ∷ ls) ≡ log ∷ take n ls
 take-one m n log ls e = ap (λ (k : ℕ). take k (log ∷ ls)) e
@@ -141,7 +141,7 @@ kept_are report (log ∷ logs) a =
         → (feed_refusal report log ≡ 0 → logs_kept (fed_report report log) logs ≡ take (most_logs - get_or (report_numbers (fed_report report log)) 0 0) (logs_sized logs))
         → logs_kept report (log ∷ logs) ≡ take (most_logs - n) (logs_sized (log ∷ logs))
     go true eb c ec f g =
-        kept_not report log logs 0 (sym (by_log report log eb)) ∙ f ∙ ap (take (most_logs - n)) (sym (sized-not report log logs eb))
+        kept_not report log logs 0 (sym (by_log report log eb)) ∙ f ∙ ap (take (most_logs - n)) (sym (sized_not report log logs eb))
     go false eb true ec f g =
         kept_not report log logs 16 (sym (by_full report log eb a ec))
         ∙ f
@@ -153,7 +153,7 @@ kept_are report (log ∷ logs) a =
         kept_log report log logs e
         ∙ ap (λ (ls : List (List ℕ)). log ∷ ls) (g e)
         ∙ sym (take-one (most_logs - n) (most_logs - get_or (report_numbers (fed_report report log)) 0 0) log (logs_sized logs) m)
-        ∙ ap (take (most_logs - n)) (sym (sized-log report log logs eb))
+        ∙ ap (take (most_logs - n)) (sym (sized_log report log logs eb))
 
 -- ---- the sums, number by number
 

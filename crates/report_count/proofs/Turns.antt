@@ -169,19 +169,19 @@ end ws log t o r s n w es e =
     f : frames_ahead log r ≡ []
     f = none_ahead log r w.arranged (ap is_end (sym es) ∙ e)
 
-    of-cell : (k : ℕ) (b : Bool) → k < 4 → cell t k b ≡ get_or (plus ws (tally (frames_read log))) (number_at k b) 0
-    of-cell k b h = omega (arith, w.cells k b h, ap (times (is_of k b)) f, cell_end ws (frames_read log) k b h)
+    of_cell : (k : ℕ) (b : Bool) → k < 4 → cell t k b ≡ get_or (plus ws (tally (frames_read log))) (number_at k b) 0
+    of_cell k b h = omega (arith, w.cells k b h, ap (times (is_of k b)) f, cell_end ws (frames_read log) k b h)
 
     at : (i : ℕ) → i < 12 → get_or (numbers_of (get_or ws 0 0 + 1) t o) i 0 ≡ get_or (plus ws (tally (frames_read log))) i 0
     at zero h = sym (get_d_plus ws (tally (frames_read log)) 0)
-    at (suc zero) h = of-cell 0 true (omega arith)
-    at (suc (suc zero)) h = of-cell 0 false (omega arith)
-    at (suc (suc (suc zero))) h = of-cell 1 true (omega arith)
-    at (suc (suc (suc (suc zero)))) h = of-cell 1 false (omega arith)
-    at (suc (suc (suc (suc (suc zero))))) h = of-cell 2 true (omega arith)
-    at (suc (suc (suc (suc (suc (suc zero)))))) h = of-cell 2 false (omega arith)
-    at (suc (suc (suc (suc (suc (suc (suc zero))))))) h = of-cell 3 true (omega arith)
-    at (suc (suc (suc (suc (suc (suc (suc (suc zero)))))))) h = of-cell 3 false (omega arith)
+    at (suc zero) h = of_cell 0 true (omega arith)
+    at (suc (suc zero)) h = of_cell 0 false (omega arith)
+    at (suc (suc (suc zero))) h = of_cell 1 true (omega arith)
+    at (suc (suc (suc (suc zero)))) h = of_cell 1 false (omega arith)
+    at (suc (suc (suc (suc (suc zero))))) h = of_cell 2 true (omega arith)
+    at (suc (suc (suc (suc (suc (suc zero)))))) h = of_cell 2 false (omega arith)
+    at (suc (suc (suc (suc (suc (suc (suc zero))))))) h = of_cell 3 true (omega arith)
+    at (suc (suc (suc (suc (suc (suc (suc (suc zero)))))))) h = of_cell 3 false (omega arith)
     at (suc (suc (suc (suc (suc (suc (suc (suc (suc zero))))))))) h = omega (arith, w.unread, ap (times is_unreadable) f, unread_end ws (frames_read log))
     at (suc (suc (suc (suc (suc (suc (suc (suc (suc (suc zero)))))))))) h = omega (arith, w.long, ap (times is_over_long) f, long_end ws (frames_read log))
     at (suc (suc (suc (suc (suc (suc (suc (suc (suc (suc (suc zero))))))))))) h = omega (arith, w.bytes, ap data_bytes f, bytes_end ws (frames_read log))

@@ -33,9 +33,9 @@ unfolding row_line_lem
 row_short w a b h k l = omega (arith, length-append (numbered w a) (number_line wrong_word b), numbered_short w a h, line_short wrong_word b k)
 
 module _ (ws : List ℕ) (h : (i : ℕ) → get_or ws i 0 < 2 ^ 64) where
-  table-short : length (table_lines ws) ≤ 272
+  table_short : length (table_lines ws) ≤ 272
   unfolding table_lines
-  table-short =
+  table_short =
       let a : List ℕ = row_line_lem full_word (get_or ws 1 0) (get_or ws 2 0) in
       let b : List ℕ = row_line_lem first_word (get_or ws 3 0) (get_or ws 4 0) in
       let c : List ℕ = row_line_lem middle_word (get_or ws 5 0) (get_or ws 6 0) in
@@ -51,9 +51,9 @@ module _ (ws : List ℕ) (h : (i : ℕ) → get_or ws i 0 < 2 ^ 64) where
         row_short last_word _ _ (h 7) (h 8) (omega arith),
       )
 
-  others-short : length (other_lines ws) ≤ 89
+  others_short : length (other_lines ws) ≤ 89
   unfolding other_lines
-  others-short =
+  others_short =
       let a : List ℕ = number_line unreadable_word (get_or ws 9 0) in
       let b : List ℕ = number_line over_long_word (get_or ws 10 0) in
       let c : List ℕ = number_line data_word (get_or ws 11 0) in
@@ -68,8 +68,8 @@ module _ (ws : List ℕ) (h : (i : ℕ) → get_or ws i 0 < 2 ^ 64) where
         length-append (number_line logs_word (get_or ws 0 0)) (table_lines ws ++ other_lines ws),
         length-append (table_lines ws) (other_lines ws),
         line_short logs_word _ (h 0),
-        table-short,
-        others-short,
+        table_short,
+        others_short,
       )
 
 mean_short : (n bytes : ℕ) → n < 2 ^ 64 → bytes < 2 ^ 64 → length (mean_line (mean_of n bytes)) ≤ 83

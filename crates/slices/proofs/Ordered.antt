@@ -92,9 +92,9 @@ order_flips xs ys = (λ e. order_flipped xs ys ∙ ap flipped e, λ e. order_fli
 
 -- the first byte decides between the first and the third, or none of the two does
 module _ (x y z : ℕ) (xs ys zs : List ℕ) (rec : order xs ys ≡ below → order ys zs ≡ below → order xs zs ≡ below) where
-  rises-on : order_by (ltb x y) (ltb y x) (order xs ys) ≡ below → order_by (ltb y z) (ltb z y) (order ys zs) ≡ below
+  rises_on : order_by (ltb x y) (ltb y x) (order xs ys) ≡ below → order_by (ltb y z) (ltb z y) (order ys zs) ≡ below
       → order_by (ltb x z) (ltb z x) (order xs zs) ≡ below
-  rises-on e f =
+  rises_on e f =
       bytewise x z (order_by (ltb x z) (ltb z x) (order xs zs) ≡ below) (λ h. by_below x z (order xs zs) h)
       (λ h. absurd (omega (arith, not_above x y (order xs ys) e, not_above y z (order ys zs) f)))
       (λ h. by_same x z (order xs zs) h
@@ -112,7 +112,7 @@ order_rises [] (y ∷ ys) [] e f = absurd (no_above_below f)
 order_rises [] (y ∷ ys) (z ∷ zs) e f = refl
 order_rises (x ∷ xs) [] zs e f = absurd (no_above_below e)
 order_rises (x ∷ xs) (y ∷ ys) [] e f = f
-order_rises (x ∷ xs) (y ∷ ys) (z ∷ zs) e f = rises-on x y z xs ys zs (order_rises xs ys zs) e f
+order_rises (x ∷ xs) (y ∷ ys) (z ∷ zs) e f = rises_on x y z xs ys zs (order_rises xs ys zs) e f
 
 -- ---- from a place on
 

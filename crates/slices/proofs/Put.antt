@@ -167,24 +167,24 @@ put_here s p n h =
 -- two runs that lie apart, in either order
 pub put_apart : (s : List ℕ) (p q : ℕ) (xs ys : List ℕ) → p + length xs ≤ q → q + length ys ≤ length s → put (put s p xs) q ys ≡ put (put s q ys) p xs
 put_apart s p q xs ys h l =
-    ap₂ (λ (t : List ℕ) (i : ℕ). put t i ys) (ap (λ (t : List ℕ). put t p xs) (sym here) ∙ put-before s p xs m (omega (arith, m-length))) q-long
-    ∙ put-put s p (xs ++ m) ys (omega (arith, q-long))
+    ap₂ (λ (t : List ℕ) (i : ℕ). put t i ys) (ap (λ (t : List ℕ). put t p xs) (sym here) ∙ put-before s p xs m (omega (arith, m_length))) q_long
+    ∙ put-put s p (xs ++ m) ys (omega (arith, q_long))
     ∙ ap (put s p) (append_assoc xs m ys)
-    ∙ sym (put-before s p xs (m ++ ys) (omega (arith, m-length, length-append m ys)))
+    ∙ sym (put-before s p xs (m ++ ys) (omega (arith, m_length, length-append m ys)))
     ∙ ap (λ (t : List ℕ). put t p xs)
-    (sym (put-put s (p + length xs) m ys (omega (arith, m-length))) ∙ ap₂ (λ (t : List ℕ) (i : ℕ). put t i ys) here (sym q-is))
+    (sym (put-put s (p + length xs) m ys (omega (arith, m_length))) ∙ ap₂ (λ (t : List ℕ) (i : ℕ). put t i ys) here (sym q_is))
   where
     m : List ℕ
     m = take (q - (p + length xs)) (drop (p + length xs) s)
 
-    m-length : length m ≡ q - (p + length xs)
-    m-length = length-take-le (q - (p + length xs)) (drop (p + length xs) s) (omega (arith, length-drop (p + length xs) s))
+    m_length : length m ≡ q - (p + length xs)
+    m_length = length-take-le (q - (p + length xs)) (drop (p + length xs) s) (omega (arith, length-drop (p + length xs) s))
 
     here : put s (p + length xs) m ≡ s
     here = put_here s (p + length xs) (q - (p + length xs)) (omega arith)
 
-    q-is : q ≡ p + length xs + length m
-    q-is = omega (arith, m-length)
+    q_is : q ≡ p + length xs + length m
+    q_is = omega (arith, m_length)
 
-    q-long : q ≡ p + length (xs ++ m)
-    q-long = omega (arith, m-length, length-append xs m)
+    q_long : q ≡ p + length (xs ++ m)
+    q_long = omega (arith, m_length, length-append xs m)
