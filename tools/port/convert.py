@@ -15,7 +15,7 @@ GIVEN = re.compile(r"^(?:shared_)?(?:slice|vec|array)_known")
 
 
 def same(name):
-    return re.sub(r"^(overflow|nonzero)[-_]", "", re.sub(r"_lem$", "", name)).replace("_", "-")
+    return re.sub(r"^(overflow|nonzero|slice[-_]bounds|part)[-_]", "", re.sub(r"_lem$", "", name)).replace("_", "-")
 
 
 def groups(text):
@@ -73,6 +73,7 @@ class Turn:
             parts.pop(0)
         if not parts:
             return place, []
+        parts[0] = {"well-formed": "well_formed"}.get(parts[0], parts[0])
         if parts[0] in ("args", "requires", "ranges", "lifetimes", "well_formed"):
             return None, parts
 
@@ -80,13 +81,20 @@ class Turn:
             own = self.step.get(p) or ["", ""]
             return own[0] and same(own[0]) == same(parts[0])
 
-        if not fits(place):
+        def stem(name):
+            return re.sub(r"-?\d+$", "", same(name))
+
+        def near_fits(p):
+            own = self.step.get(p) or ["", ""]
+            return own[0] and stem(own[0]) == stem(parts[0])
+
+        if not fits(place) and not near_fits(place):
             chain, p = [], self.goal
             while p:
                 chain.append(p)
                 p = self.parent.get(p)
             depth = chain.index(place) if place in chain else 0
-            near = sorted((abs(i - depth), i) for i, q in enumerate(chain) if fits(q))
+            near = sorted((abs(i - depth), i) for i, q in enumerate(chain) if fits(q)) or sorted((abs(i - depth), i) for i, q in enumerate(chain) if near_fits(q))
             if not near:
                 return None, parts
             place = chain[near[0][1]]
@@ -145,7 +153,15 @@ class Turn:
             _ = gone
         out.append(PATHS.sub(fix, text[pos:]))
         new = "".join(out)
-        new = re.sub(r"\(?\bnot-(true|false) _ (c\.if-not-[^\s.]+\.\1)(\))?", lambda m: ("(" if m.group(0)[0] == "(" and not m.group(3) else "") + m.group(2) + (")" if m.group(3) and m.group(0)[0] != "(" else ""), new)
+        calls = {(p[3] or "").split("::")[-1] for p in self.t["places"]}
+
+        def unnot(m):
+            name = re.sub(r"-\d+$", "", m.group(2).split("if-not-")[1].split(".")[0])
+            if name not in calls and re.search(r"!" + name + r"\.\w+\b(?!\()", self.source):
+                return m.group(0)
+            return ("(" if m.group(0)[0] == "(" and not m.group(3) else "") + m.group(2) + (")" if m.group(3) and m.group(0)[0] != "(" else "")
+
+        new = re.sub(r"\(?\bnot-(true|false) _ (c\.if-not-[^\s.]+\.\1)(\))?", unnot, new)
         for q in re.findall("\x00([^\x00]*)\x00", new):
             self.said.append(f"{self.fn}: a place {q} is passed on")
         return new.replace("\x00", "")
@@ -206,6 +222,8 @@ def turn_file(crate, folder, path, table, said, root):
         said.append(f"{fn}: by hand")
         return False
     t = Turn(table, fn, said)
+    src = os.path.join(root, "crates", crate, "src")
+    t.source = "\n".join(open(os.path.join(src, f), encoding="utf-8").read() for f in sorted(os.listdir(src)) if f.endswith(".rt"))
     text = plain_names(text)
     gs = groups(text)
     uses = [g[2][0] for g in gs if g[2][0].startswith("use ")]

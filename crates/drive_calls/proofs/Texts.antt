@@ -55,4 +55,4 @@ module _ (s : State) (input : List ℕ) where
       (ap (λ (d : Driven). joined d.lines) t ∙ ap (λ (ls : List (List ℕ)). line_of s k ++ joined ls) v.lines, ap (λ (d : Driven). d.state) t ∙ v.state)
 
 pub text_turn : TextTurn
-text_turn = record { ends = λ s input e. ends_so s input e; stops = λ s input e. stops_so s input e; goes_on_lem = λ s input k rest e. goes_so s input k rest e }
+text_turn = record { ends = λ s input e. ends_so s input e; stops = λ s input e. stops_so s input e; goes_on = λ s input k rest e. goes_so s input k rest e }

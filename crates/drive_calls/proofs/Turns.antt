@@ -101,7 +101,7 @@ drive_turn =
     record {
       ends = λ h s input e. turn_by_lem h s input none_left e;
       stops = λ h s input e. turn_by_lem h s input bad e;
-      goes_on_lem = λ h s input k rest e. turn_by_lem h s input (command k rest) e;
+      goes_on = λ h s input k rest e. turn_by_lem h s input (command k rest) e;
     }
 
 -- ---- lines

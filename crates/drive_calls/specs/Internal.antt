@@ -20,7 +20,7 @@ driven_rest h s input = driven_in (length input) h s input
 pub record DriveTurn : Type 0 where
   pub ends : (h : List Fed) (s : State) (input : List ℕ) → command_at input ≡ none_left → driven_rest h s input ≡ record { lines = []; history = h; state = s }
   pub stops : (h : List Fed) (s : State) (input : List ℕ) → command_at input ≡ bad → driven_rest h s input ≡ record { lines = refusal 16 ∷ []; history = h; state = s }
-  pub goes_on_lem : (h : List Fed) (s : State) (input : List ℕ) (k : Call) (rest : List ℕ) → command_at input ≡ command k rest
+  pub goes_on : (h : List Fed) (s : State) (input : List ℕ) (k : Call) (rest : List ℕ) → command_at input ≡ command k rest
       → driven_rest h s input ≡ also_line (line_of s k) (driven_rest (fed s k ∷ h) (call_of s k).state rest)
 
 -- the lines from a state on, and the state at the end
@@ -34,5 +34,5 @@ state_from s input = (driven_from s input).state
 pub record TextTurn : Type 0 where
   pub ends : (s : State) (input : List ℕ) → command_at input ≡ none_left → (lines_from s input ≡ []) × (state_from s input ≡ s)
   pub stops : (s : State) (input : List ℕ) → command_at input ≡ bad → (lines_from s input ≡ refusal 16) × (state_from s input ≡ s)
-  pub goes_on_lem : (s : State) (input : List ℕ) (k : Call) (rest : List ℕ) → command_at input ≡ command k rest
+  pub goes_on : (s : State) (input : List ℕ) (k : Call) (rest : List ℕ) → command_at input ≡ command k rest
       → (lines_from s input ≡ line_of s k ++ lines_from (call_of s k).state rest) × (state_from s input ≡ state_from (call_of s k).state rest)

@@ -1,4 +1,4 @@
--- `listing::text::row_line_lem` meets its contract.
+-- `listing::text::row_line` meets its contract.
 -- Assumes nothing.
 use Rattle.listing.proofs.Steps.{row_on}
 use borrow.Author.Rules.{rules}
