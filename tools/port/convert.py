@@ -15,7 +15,7 @@ GIVEN = re.compile(r"^(?:shared_)?(?:slice|vec|array)_known")
 
 
 def same(name):
-    return re.sub(r"^(overflow|nonzero|slice[-_]bounds|part)[-_]", "", re.sub(r"_lem$", "", name)).replace("_", "-")
+    return re.sub(r"^(overflow|nonzero|slice[-_]bounds|part)[-_]", "", re.sub(r"_lem$", "", name)).replace("_", "-").lower()
 
 
 def groups(text):
@@ -73,6 +73,7 @@ class Turn:
             parts.pop(0)
         if not parts:
             return place, []
+        parts[1:] = [p.replace("-", "_") for p in parts[1:]]
         parts[0] = {"well-formed": "well_formed"}.get(parts[0], parts[0])
         if parts[0] in ("args", "requires", "ranges", "lifetimes", "well_formed"):
             return None, parts
@@ -324,8 +325,8 @@ def turn_file(crate, folder, path, table, said, root):
                 said.append(f"{fn}: {new} has parameters {params}")
             body = t.body(mm.group(4), place)
             body = re.sub(r"(?<![\w'₀-₉-])data(?![\w'₀-₉-])", "data", body)
-            if re.search(r"OneOf \(\d+ ∷ \d+", text):
-                body = re.sub(r"c\.\S+-own\.keys\d+", lambda k: f"(opened {k.group(0)})", body)
+            if re.search(r"OneOf \(\d+ ∷ \d+", text) or "not_here" in text:
+                body = re.sub(r"c\.in_default\S*-own\.keys\d+", lambda k: f"(opened {k.group(0)})", body)
             if words_used("κs", body):
                 said.append(f"{fn}: {new} uses κs")
             if not mid and re.fullmatch(r"\s*(?:search|omega) \(?(?:rules|arith)\)?\s*", body):
