@@ -120,6 +120,8 @@ class Turn:
 
         def fix(m):
             head, rest = m.group(1), m.group(2)[1:].split(".")
+            if head in bound:
+                return head + m.group(2).replace("-", "_")
             if head not in env:
                 return m.group(0)
             p, parts = self.resolve(env[head], rest)
@@ -129,6 +131,7 @@ class Turn:
                 self.said.append(f"{self.fn}: {m.group(0)}")
             return "c." + ".".join(parts)
 
+        bound = set()
         out, pos = [], 0
         lets = re.compile(r"let ([^\s:=()]+) = ([A-Za-z_][\w'₀-₉-]*(?:\.[A-Za-z0-9_'₀-₉-]+)*) in[ \n]*")
         while True:
@@ -147,6 +150,7 @@ class Turn:
                 else:
                     out.append(f"let {m.group(1)} = c.{'.'.join(parts)} in" + m.group(0)[m.group(0).rindex(" in") + 3 :])
                     env.pop(m.group(1), None)
+                    bound.add(m.group(1))
             else:
                 env.pop(m.group(1), None)
                 out.append(m.group(0))
