@@ -15,7 +15,7 @@ use Rattle.queues.specs.Passes.{passed_to, names_to}
 use Rattle.queues.proofs.Passes.{passed_more, names_more}
 use Rattle.listing.specs.Writing.{written}
 use Rattle.listing.specs.Internal.{behind, cursor, Wrote}
-use Rattle.listing.specs.Passes.{row_line_lem, entry_line, counted, count_to, lines_to, queue_text, queues_to, records_at, queues_at}
+use Rattle.listing.specs.Passes.{row_line, entry_line, counted, count_to, lines_to, queue_text, queues_to, records_at, queues_at}
 use Rattle.listing.proofs.Writes.{length-written, wrote, on}
 
 -- a second piece after the first
@@ -88,13 +88,13 @@ records-zero n p k es ps = refl
 
 module _ (ns ps : List ℕ) (es : List RecordEntry) (t : List ℕ) where
   pub queue_text_is : (s : List ℕ) (p n q k : ℕ)
-      → (cursor (behind (length (written s p (row_line_lem ns t q k (count_to k es n)))) (behind (length s) p (length (row_line_lem ns t q k (count_to k es n)))) (length (lines_to k es ps n))) (q + word_at t k 0)
+      → (cursor (behind (length (written s p (row_line ns t q k (count_to k es n)))) (behind (length s) p (length (row_line ns t q k (count_to k es n)))) (length (lines_to k es ps n))) (q + word_at t k 0)
       ≡ cursor (behind (length s) p (length (queue_text ns ps es t n q k))) (q + word_at t k 0))
-      × (written (written s p (row_line_lem ns t q k (count_to k es n))) (behind (length s) p (length (row_line_lem ns t q k (count_to k es n)))) (lines_to k es ps n)
+      × (written (written s p (row_line ns t q k (count_to k es n))) (behind (length s) p (length (row_line ns t q k (count_to k es n)))) (lines_to k es ps n)
       ≡ written s p (queue_text ns ps es t n q k))
   unfolding queue_text
   queue_text_is s p n q k =
-      let row : List ℕ = row_line_lem ns t q k (count_to k es n) in
+      let row : List ℕ = row_line ns t q k (count_to k es n) in
       (ap (λ (a : ℕ). cursor a (q + word_at t k 0)) (place_on_lem s p row (lines_to k es ps n)), buffer_on s p row (lines_to k es ps n))
 
   module _ (c : ℕ) (s : List ℕ) (p : ℕ) where

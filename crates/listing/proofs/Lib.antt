@@ -4,10 +4,7 @@ pub mod Parts
 pub mod Steps
 pub mod Counting
 pub mod Meanings
-pub mod Typed
-pub mod CallRules
 pub mod Examples
 pub mod Readback
 pub mod Rounding
 pub mod Bounds
-pub mod FacadeRules

@@ -21,7 +21,7 @@ use Rattle.queues.proofs.Passes.{items, one, items_more, word_is, behind-row, fr
 use Rattle.listing.specs.Writing.{written, listed}
 use Rattle.listing.specs.Internal.{behind, Wrote}
 use Rattle.listing.specs.Listing.{queues_word, number_line, head_line, queue_line, record_line, record_lines, queue_lines, end_lines, listing}
-use Rattle.listing.specs.Passes.{row_line_lem, entry_line, counted, count_to, lines_to, queue_text, queues_to}
+use Rattle.listing.specs.Passes.{row_line, entry_line, counted, count_to, lines_to, queue_text, queues_to}
 use Rattle.listing.proofs.Writes.{length-written, wrote, on, reads}
 
 -- ---- the entries of one queue
@@ -77,7 +77,7 @@ module _ (ns ps : List ℕ) (es : List RecordEntry) (t : List ℕ) (n : ℕ) (h 
       )
 
   text_here : (j : ℕ) → word_at t j 2 ≡ next (here ns ps es t n j) → queue_line (here ns ps es t n j) ++ record_lines (here ns ps es t n j).records ≡ queue_text ns ps es t n (names_to t j) j
-  unfolding queue_line queue_text row_line_lem
+  unfolding queue_line queue_text row_line
   text_here j e =
       ap₂ (λ (a b : List ℕ). a ++ b)
       (ap₂ (λ (x c : ℕ). head_line (take (word_at t j 0) (drop (names_to t j) ns)) (word_at t j 1) x c) (sym e) (count_are j es ps n h))

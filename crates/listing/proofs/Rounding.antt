@@ -1,7 +1,6 @@
 -- 02, Ticket 2: the rounding gives the nearest whole number, at an exact half the even one, and there is one such number.
 -- Assumes nothing.
-use mathlib.Core.Path.{◌≡◌, sym, ◌∙◌}
-use mathlib.Core.Bool.{Bool, true, false, cond}
+use mathlib.Core.Path.{◌≡◌}
 use Prim.Native.Nat.{ℕ, ◌+◌, ◌*◌, ◌/◌, ◌%◌, ◌≤◌, ◌<◌}
 use native.Mathlib.Nat.{div-add-mod, mod-lt, mul-le-mul_left}
 use native.Mathlib.Omega.{arith}

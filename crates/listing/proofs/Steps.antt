@@ -13,13 +13,13 @@ use Rattle.listing.specs.declared.Listed.{Listed}
 use Rattle.listing.specs.Writing.{written, listed}
 use Rattle.listing.specs.Internal.{Wrote, behind, cursor}
 use Rattle.listing.specs.Listing.{lost_word, refused_word, number_line, head_line, record_line, fill_tenths, fill_line, end_lines, refusal}
-use Rattle.listing.specs.Passes.{row_line_lem, entry_line, counted}
+use Rattle.listing.specs.Passes.{row_line, entry_line, counted}
 use Rattle.listing.proofs.Writes.{wrote-length, wrote_none_lem, on, reads, listed-behind}
 
 pub row_on : (ns t s : List ℕ) (p q k held l f n r : ℕ) (u : List ℕ) → l ≡ word_at t k 0 → f ≡ word_at t k 1 → n ≡ word_at t k 2
     → Wrote s p (head_line (take (q + l - q) (drop q ns)) f n held) r u
-    → (cursor r (q + l) ≡ cursor (behind (length s) p (length (row_line_lem ns t q k held))) (q + word_at t k 0)) × (u ≡ written s p (row_line_lem ns t q k held))
-unfolding row_line_lem
+    → (cursor r (q + l) ≡ cursor (behind (length s) p (length (row_line ns t q k held))) (q + word_at t k 0)) × (u ≡ written s p (row_line ns t q k held))
+unfolding row_line
 row_on ns t s p q k held l f n r u el ef en w =
     let em : q + l - q ≡ l = omega arith in
     let e : head_line (take (q + l - q) (drop q ns)) f n held ≡ head_line (take (word_at t k 0) (drop q ns)) (word_at t k 1) (word_at t k 2) held =

@@ -23,8 +23,8 @@ unfoldable pub counted : ℕ → RecordEntry → ℕ → ℕ
 counted k e n = cond (eqb e.queue k) (n + 1) n
 
 -- the line of the queue with row k, whose name stands after q bytes of the names
-unfoldable pub row_line_lem : List ℕ → List ℕ → ℕ → ℕ → ℕ → List ℕ
-row_line_lem ns t q k held = head_line (take (word_at t k 0) (drop q ns)) (word_at t k 1) (word_at t k 2) held
+unfoldable pub row_line : List ℕ → List ℕ → ℕ → ℕ → ℕ → List ℕ
+row_line ns t q k held = head_line (take (word_at t k 0) (drop q ns)) (word_at t k 1) (word_at t k 2) held
 
 -- the row and the name stand in the table and the names
 pub record RowLine (ns t : List ℕ) (q k : ℕ) : Type 0 where
@@ -45,7 +45,7 @@ lines_to k es ps (suc n) = lines_to k es ps n ++ entry_line k (get_or es n blank
 
 -- the lines of queue k, whose name stands after q bytes: its own, and those of its records among the first n entries
 unfoldable pub queue_text : List ℕ → List ℕ → List RecordEntry → List ℕ → ℕ → ℕ → ℕ → List ℕ
-queue_text ns ps es t n q k = row_line_lem ns t q k (count_to k es n) ++ lines_to k es ps n
+queue_text ns ps es t n q k = row_line ns t q k (count_to k es n) ++ lines_to k es ps n
 
 -- the lines of the first k queues
 unfoldable pub queues_to : List ℕ → List ℕ → List RecordEntry → List ℕ → ℕ → ℕ → List ℕ

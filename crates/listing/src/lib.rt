@@ -1,4 +1,6 @@
 // The listing of a card: the text of 01's "Readout" in a lent buffer.
+#![tactic(auto)]
+
 mod digits;
 mod lines;
 mod passes;
