@@ -19,4 +19,4 @@ copy_example = record { records = refl; end = refl }
 
 pub copy_needs : CopyNeeds
 unfolding order order_by next_from next start_with append_item find_on find keep_on keep name_bytes record_count payloads_of payload_bytes queue_fits records_fit refuse_if first_refusal is_last_number unless and_then position_illegal item_refusals replay_items new_refusals replay_append is_empty replay_touch replay_record replay_records appends_of queue_records copy_records
-copy_needs = record { start_zero = refl; last_number = refl; out_of_order = refl; no_room_lem = refl }
+copy_needs = record { start_zero = refl; last_number = refl; out_of_order = refl; no_room = refl }

@@ -124,7 +124,7 @@ module _ (card : List ℕ) (qs : List Queue) (b : Bytes card) (t : QueuesTyped q
         as_long = long;
         lists = lists_them;
         stays = stays_so;
-        same_bytes_lem = ap (λ (z : List ℕ). copied z qs) same_blank;
+        same_bytes = ap (λ (z : List ℕ). copied z qs) same_blank;
       }
 
 -- ---- from the contract

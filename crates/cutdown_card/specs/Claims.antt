@@ -22,7 +22,7 @@ pub record Refreshed (card fresh : List ℕ) : Type 0 where
   pub as_long : length fresh ≡ blocks card * 32768
   pub lists : card_text fresh ≡ listing queues 0 (resume fresh readout_scratch) (length fresh)
   pub stays : cut_down fresh ≡ cut_to queues
-  pub same_bytes_lem : fresh_card fresh queues ≡ fresh
+  pub same_bytes : fresh_card fresh queues ≡ fresh
 
 -- "Before a unit goes back into its crate the site wants a fresh log with no deleted history": of every card that is not refused, whatever the buffer held
 abbrev pub CutdownRefreshes : Type 0

@@ -16,15 +16,15 @@ use Rattle.report.specs.declared.MeanAnswer.TheVariants.{Mean as mean, Nothing a
 use Rattle.report.specs.Layout.{report_numbers, report_arranged}
 use Rattle.report.specs.Feed.{mean_answer}
 use Rattle.report_text.specs.Text.{logs_word, full_word, first_word, middle_word, last_word, wrong_word, unreadable_word, over_long_word, data_word, mean_word, remainder_word, over_word, no_mean_line}
-use Rattle.report_text.specs.Text.{row_line_lem, table_lines, other_lines, mean_line, count_lines, report_text, refused_line}
+use Rattle.report_text.specs.Text.{row_line, table_lines, other_lines, mean_line, count_lines, report_text, refused_line}
 
-pub row_on : {s t u : List ℕ} {p q r : ℕ} (w : List ℕ) (a b : ℕ) → Wrote s p (numbered w a) q t → Wrote t q (number_line wrong_word b) r u → Wrote s p (row_line_lem w a b) r u
-unfolding row_line_lem
+pub row_on : {s t u : List ℕ} {p q r : ℕ} (w : List ℕ) (a b : ℕ) → Wrote s p (numbered w a) q t → Wrote t q (number_line wrong_word b) r u → Wrote s p (row_line w a b) r u
+unfolding row_line
 row_on w a b x y = on x y
 
-pub table_on : {s t u v z : List ℕ} {p q r m n : ℕ} (ws : List ℕ) → Wrote s p (row_line_lem full_word (get_or ws 1 0) (get_or ws 2 0)) q t
-    → Wrote t q (row_line_lem first_word (get_or ws 3 0) (get_or ws 4 0)) r u → Wrote u r (row_line_lem middle_word (get_or ws 5 0) (get_or ws 6 0)) m v
-    → Wrote v m (row_line_lem last_word (get_or ws 7 0) (get_or ws 8 0)) n z → Wrote s p (table_lines ws) n z
+pub table_on : {s t u v z : List ℕ} {p q r m n : ℕ} (ws : List ℕ) → Wrote s p (row_line full_word (get_or ws 1 0) (get_or ws 2 0)) q t
+    → Wrote t q (row_line first_word (get_or ws 3 0) (get_or ws 4 0)) r u → Wrote u r (row_line middle_word (get_or ws 5 0) (get_or ws 6 0)) m v
+    → Wrote v m (row_line last_word (get_or ws 7 0) (get_or ws 8 0)) n z → Wrote s p (table_lines ws) n z
 unfolding table_lines
 table_on ws a b c d = on a (on b (on c d))
 

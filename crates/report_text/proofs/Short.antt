@@ -16,7 +16,7 @@ use Rattle.report.specs.declared.MeanAnswer.TheVariants.{Refused as no_mean}
 use Rattle.report.specs.Layout.{report_numbers, report_arranged}
 use Rattle.report.specs.Feed.{mean_of, sound_frames, mean_answer}
 use Rattle.report.proofs.Claims.{report_bound}
-use Rattle.report_text.specs.Text.{row_line_lem, table_lines, other_lines, mean_line, count_lines, report_text, refused_line, mean_word, remainder_word, over_word, no_mean_line, wrong_word}
+use Rattle.report_text.specs.Text.{row_line, table_lines, other_lines, mean_line, count_lines, report_text, refused_line, mean_word, remainder_word, over_word, no_mean_line, wrong_word}
 use Rattle.report_text.specs.Text.{logs_word, full_word, first_word, middle_word, last_word, unreadable_word, over_long_word, data_word}
 use Rattle.report_text.specs.Claims.{ReportShort, ReportRoom, TextExamples}
 
@@ -28,18 +28,18 @@ line_short : (w : List ℕ) (n : ℕ) → n < 2 ^ 64 → length (number_line w n
 unfolding number_line
 line_short w n h = omega (arith, length-append (numbered w n) (10 ∷ []), numbered_short w n h)
 
-row_short : (w : List ℕ) (a b : ℕ) → a < 2 ^ 64 → b < 2 ^ 64 → length w ≤ 20 → length (row_line_lem w a b) ≤ 68
-unfolding row_line_lem
+row_short : (w : List ℕ) (a b : ℕ) → a < 2 ^ 64 → b < 2 ^ 64 → length w ≤ 20 → length (row_line w a b) ≤ 68
+unfolding row_line
 row_short w a b h k l = omega (arith, length-append (numbered w a) (number_line wrong_word b), numbered_short w a h, line_short wrong_word b k)
 
 module _ (ws : List ℕ) (h : (i : ℕ) → get_or ws i 0 < 2 ^ 64) where
   table_short : length (table_lines ws) ≤ 272
   unfolding table_lines
   table_short =
-      let a : List ℕ = row_line_lem full_word (get_or ws 1 0) (get_or ws 2 0) in
-      let b : List ℕ = row_line_lem first_word (get_or ws 3 0) (get_or ws 4 0) in
-      let c : List ℕ = row_line_lem middle_word (get_or ws 5 0) (get_or ws 6 0) in
-      let d : List ℕ = row_line_lem last_word (get_or ws 7 0) (get_or ws 8 0) in
+      let a : List ℕ = row_line full_word (get_or ws 1 0) (get_or ws 2 0) in
+      let b : List ℕ = row_line first_word (get_or ws 3 0) (get_or ws 4 0) in
+      let c : List ℕ = row_line middle_word (get_or ws 5 0) (get_or ws 6 0) in
+      let d : List ℕ = row_line last_word (get_or ws 7 0) (get_or ws 8 0) in
       omega (
         arith,
         length-append a (b ++ (c ++ d)),
@@ -118,5 +118,5 @@ pub report_room : ReportRoom
 report_room report room h = sym (listed-whole room (length (report_text report)) (omega (arith, report_short report)))
 
 pub text_examples : TextExamples
-unfolding row_line_lem mean_line refused_line number_line numbered decimal decimal_in digit
+unfolding row_line mean_line refused_line number_line numbered decimal decimal_in digit
 text_examples = record { row = refl; some = refl; none = refl; card = refl }

@@ -5,7 +5,7 @@ use Rattle.std.specs.Prelude.{◌≡◌, List, [], ◌∷◌, ◌++◌, ℕ, ◌
 use Rattle.listing.specs.declared.Listed.TheVariants.{Bytes as bytes}
 use Rattle.listing.specs.Writing.{listed}
 use Rattle.report.specs.declared.MeanAnswer.TheVariants.{Mean as mean, Nothing as nothing}
-use Rattle.report_text.specs.Text.{row_line_lem, full_word, mean_line, refused_line, report_text}
+use Rattle.report_text.specs.Text.{row_line, full_word, mean_line, refused_line, report_text}
 
 -- a buffer of 1,024 bytes has room for the text of every report: the answer is never that there is no room
 abbrev pub ReportShort : Type 0
@@ -17,7 +17,7 @@ ReportRoom = (report : List ℕ) (room : ℕ) → 1024 ≤ room → listed room 
 -- some lines, letter by letter
 pub record TextExamples : Type 0 where
   -- "full right 12 wrong 0"
-  pub row : row_line_lem full_word 12 0 ≡ 102 ∷ 117 ∷ 108 ∷ 108 ∷ 32 ∷ 114 ∷ 105 ∷ 103 ∷ 104 ∷ 116 ∷ 32 ∷ 49 ∷ 50 ∷ 32 ∷ 119 ∷ 114 ∷ 111 ∷ 110 ∷ 103 ∷ 32 ∷ 48 ∷ 10 ∷ []
+  pub row : row_line full_word 12 0 ≡ 102 ∷ 117 ∷ 108 ∷ 108 ∷ 32 ∷ 114 ∷ 105 ∷ 103 ∷ 104 ∷ 116 ∷ 32 ∷ 49 ∷ 50 ∷ 32 ∷ 119 ∷ 114 ∷ 111 ∷ 110 ∷ 103 ∷ 32 ∷ 48 ∷ 10 ∷ []
   -- "mean 237 remainder 0 over 3"
   pub some : mean_line (mean 237 0 3) ≡ 109 ∷ 101 ∷ 97 ∷ 110 ∷ 32 ∷ 50 ∷ 51 ∷ 55 ∷ 32 ∷ 114 ∷ 101 ∷ 109 ∷ 97 ∷ 105 ∷ 110 ∷ 100 ∷ 101 ∷ 114 ∷ 32 ∷ 48 ∷ 32 ∷ 111 ∷ 118 ∷ 101 ∷ 114 ∷ 32 ∷ 51 ∷ 10 ∷ []
   -- "mean none"

@@ -65,13 +65,13 @@ no_mean_line = 109 ∷ 101 ∷ 97 ∷ 110 ∷ 32 ∷ 110 ∷ 111 ∷ 110 ∷ 101
 -- ---- the lines
 
 -- "four frame types by two outcomes": a line for each type
-unfoldable pub row_line_lem : List ℕ → ℕ → ℕ → List ℕ
-row_line_lem w r n = numbered w r ++ number_line wrong_word n
+unfoldable pub row_line : List ℕ → ℕ → ℕ → List ℕ
+row_line w r n = numbered w r ++ number_line wrong_word n
 
 unfoldable pub table_lines : List ℕ → List ℕ
 table_lines ws =
-    row_line_lem full_word (get_or ws 1 0) (get_or ws 2 0)
-    ++ (row_line_lem first_word (get_or ws 3 0) (get_or ws 4 0) ++ (row_line_lem middle_word (get_or ws 5 0) (get_or ws 6 0) ++ row_line_lem last_word (get_or ws 7 0) (get_or ws 8 0)))
+    row_line full_word (get_or ws 1 0) (get_or ws 2 0)
+    ++ (row_line first_word (get_or ws 3 0) (get_or ws 4 0) ++ (row_line middle_word (get_or ws 5 0) (get_or ws 6 0) ++ row_line last_word (get_or ws 7 0) (get_or ws 8 0)))
 
 -- "the unreadable headers, the over-long frames, bytes of data in sound frames"
 unfoldable pub other_lines : List ℕ → List ℕ
