@@ -1,4 +1,2 @@
-pub mod Typed
 pub mod Passes
-pub mod CallRules
 pub mod Kept
