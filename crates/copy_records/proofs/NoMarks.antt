@@ -4,7 +4,6 @@ use mathlib.Core.Path.{◌≡◌, refl, ap, ◌∙◌}
 use mathlib.Core.List.{List, [], ◌∷◌, ◌++◌}
 use Prim.Native.Nat.{ℕ}
 use Rattle.record.specs.Record.{Item, Record}
-use Rattle.queues.specs.Queues.{Queue}
 use Rattle.calls.specs.Desks.{marks_in}
 use Rattle.calls.specs.Marks.{shifts_of}
 use Rattle.calls.proofs.Marks.{marks_given}

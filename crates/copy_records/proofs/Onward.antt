@@ -26,7 +26,7 @@ use Rattle.cut_calls.specs.Claims.{StatesSince, none, call}
 use Rattle.copy_records.specs.Copy.{copy_records, copy_end, CopyLent, copy_refusal}
 use Rattle.copy_records.specs.Machine.{listed_from, copied_machine}
 use Rattle.copy_records.specs.Typed.{QueuesTyped}
-use Rattle.copy_records.specs.Claims.{state_copied, CopyListed, StatesGoesOn, StatesCopyGoesOn}
+use Rattle.copy_records.specs.Claims.{state_copied, CopyListed, StatesCopyGoesOn}
 use Rattle.copy_records.proofs.Again.{arranged_ordered, copy_records_replay}
 use Rattle.copy_records.proofs.Left.{copy_passed, number, rest, encoded, target_left, end_left, rest_short, room, some, most, formed}
 

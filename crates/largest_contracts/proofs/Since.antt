@@ -7,16 +7,13 @@ use Prim.Native.Nat.{ℕ}
 use Rattle.queues.specs.Layout.{Memory, held_entries}
 use Rattle.queues.proofs.Both.{both}
 use Rattle.queues.proofs.Parts.{place-numbered}
-use Rattle.queues.proofs.Both.{and_left}
-use Rattle.calls.specs.State.{queue_bytes}
-use Rattle.calls.specs.Calls.{call_of}
 use Rattle.calls.specs.Machine.{Fed}
 use Rattle.contracts.specs.Promises.{Lent}
 use Rattle.contracts.specs.Run.{opening, Run, begin}
 use Rattle.contracts.specs.Run.{Run.call as run_call}
 use Rattle.contracts.proofs.Left.{with_arranged, with_kept}
 use Rattle.contracts.proofs.ReplayTable.{replay_arranged}
-use Rattle.cut_contracts.specs.Claims.{Since, none, call}
+use Rattle.cut_contracts.specs.Claims.{none, call}
 use Rattle.cut_contracts.proofs.PowerCut.{since_kept}
 use Rattle.largest.specs.Largest.{kept_answer}
 use Rattle.largest.specs.Table.{arranged_with}

@@ -2,8 +2,7 @@
 -- From open on: what the first call is lent.
 -- Assumes nothing.
 use Rattle.std.specs.Prelude.{◌≡◌, true, false, List, ℕ, ◌≤◌, length}
-use Rattle.queues.specs.Layout.{Memory, arranged}
-use Rattle.calls.specs.State.{queue_bytes}
+use Rattle.queues.specs.Layout.{Memory}
 use Rattle.calls.specs.Refusals.{log_refused}
 use Rattle.read_step.specs.declared.ReplayAnswer.{ReplayAnswer}
 use Rattle.contracts.specs.Promises.{ReplayKept}
