@@ -27,6 +27,7 @@ BY_HAND = {
     "mem_entries/store_entry_leaves_it/0": ("≡ set entries.old i e", "≡ entries.old"),
     "mem_sweep/sweep_keeps_none/0": ("SweptAs (sweep_to change queue entries.old payloads.old count)", "SweptAs (sweep_to change queue entries.old payloads.old 0)"),
     "question/range_hands_back_all_payloads/0": ("        result.now }", "        payloads.now }"),
+    "slices/compare_shorter_is_same/0": ("if i < b.len() {", "if i < b.len() - b.len() {"),
     "replay/read_leaves_the_reader/0": ("        reader.new }", "        reader.old }"),
     "replay/replay_leaves_the_table/0": ("        (memory names.new payloads.new entries.new table.new) }", "        (memory names.new payloads.new entries.new table.old) }"),
 }
