@@ -21,6 +21,7 @@ BY_HAND = {
     "copy/copy_leaves_the_scratch/0": ("        scratch.new }", "        scratch.old }"),
     "drive_commands/definition_big_endian_position/0": ("number_in xs = le (take 8 (drop 8 xs))", "number_in xs = le (Rattle.std.specs.Prelude.reverse (take 8 (drop 8 xs)))"),
     "mem_check/arranged_names_twice/0": ("arranged (memory names.now payloads.now entries.now table.now)", "arranged (memory names.now names.now entries.now table.now)"),
+    "mem_check_parts/last_position_taken/0": ("    if MAX_POSITION <= position {", "    if MAX_POSITION <= position / 2 {"),
     "mem_entries/entry_at_says_the_first/0": ("get_or entries.now i blank", "get_or entries.now 0 blank"),
     "mem_entries/move_down_moves_up/0": ("≡ moved_down entries.old to from queue", "≡ moved_down entries.old from to queue"),
     "mem_entries/move_down_stores_nothing/0": ("≡ moved_down entries.old to from queue", "≡ entries.old"),
