@@ -17,6 +17,7 @@ BY_HAND = {
     "call/call_leaves_the_log/0": ("        (lent log.new write_position.new scratch.new", "        (lent log.old write_position.new scratch.new"),
     "call/call_of_the_lengths/0": ("(call_asked request name.now run.now lens.now)", "(call_asked request name.now lens.now lens.now)"),
     "call_apply/apply_reads_the_names/0": ("(result ≡ refusal_by scratch.now doing", "(result ≡ refusal_by names.old doing"),
+    "call_effect/item_step_at_the_last_number/0": ("if MAX_POSITION <= position {", "if MAX_POSITION <= position / 2 {"),
     "contracts/call_leaves_the_log/0": ("  pub log_left : l'.log ≡ (call_of (state_of l) k).state.log", "  pub log_left : l'.log ≡ l.log"),
     "copy/copy_leaves_the_scratch/0": ("        scratch.new }", "        scratch.old }"),
     "drive_commands/definition_big_endian_position/0": ("number_in xs = le (take 8 (drop 8 xs))", "number_in xs = le (Rattle.std.specs.Prelude.reverse (take 8 (drop 8 xs)))"),
@@ -29,6 +30,7 @@ BY_HAND = {
     "mem_sweep/sweep_keeps_none/0": ("SweptAs (sweep_to change queue entries.old payloads.old count)", "SweptAs (sweep_to change queue entries.old payloads.old 0)"),
     "question/range_hands_back_all_payloads/0": ("        result.now }", "        payloads.now }"),
     "slices/compare_shorter_is_same/0": ("if i < b.len() {", "if i < b.len() - b.len() {"),
+    "read_step/truncate_of_a_missing_queue_at_the_last_number/0": ("if MAX_POSITION <= position {", "if MAX_POSITION <= position / 2 {"),
     "replay/read_leaves_the_reader/0": ("        reader.new }", "        reader.old }"),
     "replay/replay_leaves_the_table/0": ("        (memory names.new payloads.new entries.new table.new) }", "        (memory names.new payloads.new entries.new table.old) }"),
 }
