@@ -1,4 +1,3 @@
-use Rattle.std.proofs.Common.{rules}
 use Rattle.card_input.proofs.Parts.{read_more}
 use Rattle.card_input.proofs.read_card.Goals as goal
 

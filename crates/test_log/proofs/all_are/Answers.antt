@@ -1,4 +1,3 @@
-use Prim.Native.Nat.{◌-◌}
 use Rattle.test_log.proofs.all_are.Goals as goal
 
 pub returns-then-s-i : goal.returns-then-s-i

@@ -1,5 +1,4 @@
 use mathlib.Core.Path.{refl}
-use Prim.Native.Nat.{◌-◌}
 use Rattle.test_log.proofs.put_empty.Goals as goal
 
 pub loop-i-init : goal.loop-i-init

@@ -1,5 +1,4 @@
 use mathlib.Core.Path.{sym, ◌∙◌}
-use Prim.Native.Nat.{◌-◌}
 use Rattle.record.proofs.Walks.{next_less}
 use Rattle.test_record.proofs.print_items.Goals as goal
 

@@ -1,4 +1,3 @@
-use Prim.Native.Nat.{◌-◌}
 use Rattle.test_leaves.proofs.edges.run.Goals as goal
 
 pub loop-at-init : goal.loop-at-init
