@@ -5,33 +5,29 @@ use Prim.Native.Nat.{ℕ}
 use borrow.Author.Tests.{ne_eqb}
 use Rattle.frame.specs.declared.TypeByte.TheVariants.{Unknown as unknown}
 use Rattle.frame.specs.Frame.{type_when, type_of}
-use Rattle.report_frames.proofs.said_by.Statement.{statement}
-use Rattle.report_frames.proofs.said_by.Tie as tie
+use Rattle.report_frames.proofs.said_by.Goals as goal
 
 none : (b : ℕ) → (b ≡ 1 → ⊥) → (b ≡ 2 → ⊥) → (b ≡ 3 → ⊥) → (b ≡ 4 → ⊥) → unknown ≡ type_of b
 unfolding type_of type_when
 none b h1 h2 h3 h4 = simp (ne_eqb _ _ h1, ne_eqb _ _ h2, ne_eqb _ _ h3, ne_eqb _ _ h4)
 
-returns : tie.Need-returns
+pub returns-in-1 : goal.returns-in-1
 unfolding type_of type_when
-returns c = sym (ap type_of c.match.keys1)
+returns-in-1 c = sym (ap type_of c.in-1.is)
 
-returns-2 : tie.Need-returns-2
+pub returns-in-2 : goal.returns-in-2
 unfolding type_of type_when
-returns-2 c = sym (ap type_of c.match.keys2)
+returns-in-2 c = sym (ap type_of c.in-2.is)
 
-returns-3 : tie.Need-returns-3
+pub returns-in-3 : goal.returns-in-3
 unfolding type_of type_when
-returns-3 c = sym (ap type_of c.match.keys3)
+returns-in-3 c = sym (ap type_of c.in-3.is)
 
-returns-4 : tie.Need-returns-4
+pub returns-in-4 : goal.returns-in-4
 unfolding type_of type_when
-returns-4 c = sym (ap type_of c.match.keys4)
+returns-in-4 c = sym (ap type_of c.in-4.is)
 
-returns-5 : tie.Need-returns-5
-returns-5 c =
-    let r = c.match.rest in
+pub returns-in_default : goal.returns-in_default
+returns-in_default c =
+    let r = c.in_default.in_default-own.rest in
     none _ r.0.0.0.1 r.0.0.1 r.0.1 r.1
-
-pub said-by-spec : {M : Type 1} → statement M
-said-by-spec = tie.close (tie.spec returns returns-2 returns-3 returns-4 returns-5)
