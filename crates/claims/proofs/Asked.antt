@@ -106,10 +106,10 @@ asked_again m ks n lo hi i a w k =
 
 -- ---- to the last
 
-through : (m : Memory) (ks n : List ℕ) (lo : Lower) (hi : Upper) (is : List Item) (q : OfQueue m ks n) → Asks m ks n hi lo is → is ≡ all_in_range lo hi q.queue.records
-through m ks n lo hi _ q (last w) = sym (nothing (all_in_range lo hi q.queue.records) (first_given m ks n lo hi no_item w q))
-through m ks n lo hi _ q (more {is} i w rest) =
-    ap (λ (xs : List Item). i ∷ xs) (through m ks n (after_position i.position) hi is q rest ∙ range_again m ks n lo hi i w q) ∙ sym (range-begins m ks n lo hi i w q).parts
+through : (m : Memory) (ks n : List ℕ) (hi : Upper) (lo : Lower) (is : List Item) (q : OfQueue m ks n) → Asks m ks n hi lo is → is ≡ all_in_range lo hi q.queue.records
+through m ks n hi lo _ q (last w) = sym (nothing (all_in_range lo hi q.queue.records) (first_given m ks n lo hi no_item w q))
+through m ks n hi lo _ q (more {is} i w rest) =
+    ap (λ (xs : List Item). i ∷ xs) (through m ks n hi (after_position i.position) is q rest ∙ range_again m ks n lo hi i w q) ∙ sym (range-begins m ks n lo hi i w q).parts
 
 asked_of : (m : Memory) (ks n : List ℕ) (lo : Lower) (hi : Upper) (is : List Item) → Asks m ks n hi lo is → OfQueue m ks n
 asked_of m ks n lo hi _ (last w) = gave_of m ks n lo hi no_item w
@@ -118,4 +118,4 @@ asked_of m ks n lo hi _ (more i w rest) = gave_of m ks n lo hi (first_item i) w
 pub asked_through : AskedThrough
 asked_through m ks n lo hi is w =
     let q : OfQueue m ks n = asked_of m ks n lo hi is w in
-    record { queue = q.queue; is_held = q.is_held; all = through m ks n lo hi is q w }
+    record { queue = q.queue; is_held = q.is_held; all = through m ks n hi lo is q w }

@@ -1,11 +1,10 @@
 -- What the answer of a call counts, over lent memory.
 -- Assumes nothing.
 use mathlib.Core.Path.{◌≡◌, sym, ap, subst, ◌∙◌}
-use Prim.Native.Nat.{ℕ, ◌+◌, ◌<◌}
+use Prim.Native.Nat.{◌+◌, ◌<◌}
 use native.Mathlib.Omega.{arith}
 use Rattle.frame.specs.Block.{padding}
 use Rattle.calls.specs.State.{CallAnswer, bytes_written}
-use Rattle.calls.specs.Calls.{call_of}
 use Rattle.calls.specs.Claims.{CallCounts}
 use Rattle.calls.proofs.Counts.{counts-sum}
 use Rattle.contracts.specs.Promises.{state_of}

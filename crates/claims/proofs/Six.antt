@@ -41,7 +41,6 @@ use Rattle.contracts.specs.Turning.{QueuesReplayed}
 use Rattle.contracts.proofs.ReplayTable.{queues_kept, replay_arranged}
 use Rattle.contracts.proofs.Runs.{call_means}
 use Rattle.claims.specs.Claims.{NeverMeetsSix, CallLeavesArranged, CallWasArranged, ReplayLeavesArranged, lent_not_arranged}
-use Rattle.contracts.proofs.Demands.{leaves}
 use Rattle.claims.proofs.LogLeft.{call_leaves, left_arranged}
 
 -- ---- a call answers 6 where it applies, and no number below it does

@@ -3,14 +3,14 @@
 use mathlib.Core.Path.{◌≡◌, refl, sym, ap, ◌∙◌}
 use mathlib.Core.Bool.{Bool, true, false, cond, ◌&&◌}
 use mathlib.Core.List.{List, [], ◌∷◌, ◌++◌}
-use Prim.Native.Nat.{ℕ, zero, suc, ◌-◌, ◌≤◌, ◌<◌}
+use Prim.Native.Nat.{ℕ, suc, ◌-◌, ◌≤◌, ◌<◌}
 use native.Mathlib.Omega.{arith}
 use lib.Dec.{eqb, ltb}
 use lib.ListN.{length, take, get_or}
 use lib.Seq.{take-suc}
 use borrow.Author.Tests.{ltb-true, ltb-false, eqb-true}
 use Rattle.queues.proofs.Both.{and_left, and_right}
-use Rattle.drive_commands.specs.Commands.{trim_on, trimmed, name_in}
+use Rattle.drive_commands.specs.Commands.{trim_on, trimmed}
 use Rattle.drive_commands.specs.Internal.{ends_in_zero}
 
 -- ---- one byte at the end

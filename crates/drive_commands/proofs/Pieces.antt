@@ -1,6 +1,6 @@
 -- A line put together from its pieces; a line by the command's byte is the line of its call.
 -- Assumes nothing.
-use mathlib.Core.Path.{◌≡◌, refl, sym, ap, ap₂, subst, ◌∙◌}
+use mathlib.Core.Path.{◌≡◌, refl, sym, ap, ap₂, ◌∙◌}
 use mathlib.Core.Bool.{Bool, true, false, cond, false≢true}
 use mathlib.Core.List.{List, [], ◌∷◌, ◌++◌}
 use Prim.Native.Nat.{ℕ, zero, suc, ◌≤◌}
@@ -12,7 +12,7 @@ use Rattle.call_write.specs.declared.Called.{Called}
 use Rattle.call_write.specs.declared.Called.TheVariants.{Done, Refused}
 use Rattle.call_write.specs.declared.Last.{Last}
 use Rattle.call_write.specs.declared.Last.TheVariants.{Nowhere, At}
-use Rattle.contracts.specs.Numbers.{number_of, position_taken, called_numbers}
+use Rattle.contracts.specs.Numbers.{position_taken, called_numbers}
 use Rattle.listing.specs.Internal.{Wrote}
 use Rattle.listing.specs.Listing.{space, numbered, number_line, refusal}
 use Rattle.listing.proofs.Writes.{on, reads, wrote_none_lem}

@@ -1,4 +1,6 @@
 // The commands of a command file: what a command byte asks for, its operands, and the line that tells what its call answered.
+#![tactic(auto)]
+
 mod line;
 mod operands;
 

@@ -1,0 +1,7 @@
+-- `drive_commands::line::put_refused` meets its contract.
+-- Assumes nothing.
+use Rattle.drive_commands.proofs.Pieces.{refusal_on}
+use Rattle.drive_commands.proofs.line.put_refused.Goals as goal
+
+pub returns : goal.returns
+returns c = refusal_on _ c.put_number_line.ensures
