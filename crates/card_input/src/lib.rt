@@ -1,13 +1,19 @@
-// A card read from an open file.
-ghost use Rattle.std.specs.Prelude.{◌≤◌, length};
-ghost use Rattle.io.specs.Counts.{IsPrefixLen};
+// A card read from an open file, or from whatever else gives bytes; the names of files; and the line that says what failed.
+#![tactic(auto)]
 
-// Whether the file may have more, has ended, or could not be read.
+ghost use Rattle.std.specs.Prelude.{◌≡◌, IfOk, ◌<◌, ◌≤◌, ◌-◌, take, drop, length};
+ghost use Rattle.std.specs.Io.KnownBytes.{Consumes, IsAtEnd};
+ghost use Rattle.io.specs.Counts.{IsPrefixLen};
+ghost use Rattle.card_input.specs.declared.State.TheVariants.{Going, Ended};
+
+use std::io::{Error, ErrorKind, Read, Write};
+
+// Whether the file may have more, has ended, or could not be read, and why not.
 #[derive(Clone, Copy)]
 pub enum State {
     Going,
     Ended,
-    Failed,
+    Failed(Error),
 }
 
 // How many bytes of the file stand at the start of the buffer.
@@ -17,62 +23,86 @@ pub struct Reading {
     pub state: State,
 }
 
-// What a read that answered -1 means: a signal cut it before a byte came, and it is done again, or it failed.
-fn cut_or_failed(error: i32) -> State {
-    if error == libc::EINTR {
+// What a read that failed means: a signal cut it before a byte came, and it is done again, or there is no more to be had.
+fn cut_or_failed(error: Error) -> State
+    ensures { result ≡ Ended → ⊥ }
+{
+    if error.kind() == ErrorKind::Interrupted {
         State::Going
     } else {
-        State::Failed
+        State::Failed(error)
     }
 }
 
 // One read of the file, after the first `from` bytes. A full buffer ends it: nothing more is asked for.
-fn read_on(file: i32, card: &mut [u8], from: usize) -> Reading
-    ensures { result.«bytes» ≤ length card.new }
+fn read_on<R: Read>(file: &mut R, card: &mut [u8], from: usize) -> Reading
+    ensures within { result.«bytes» ≤ length card.new }
+    ensures kept { from ≤ length card.old → from ≤ result.«bytes» }
+    ensures front { take from card.new ≡ take from card.old }
+    ensures consumed { Consumes (R.remaining file.old) (R.remaining file.new) (take (result.«bytes» - from) (drop from card.new)) }
+    ensures end { result.state ≡ Ended → result.«bytes» < length card.new → IsAtEnd (R.remaining file.new) }
 {
     if card.len() < from {
         return Reading {
             bytes: 0,
-            state: State::Failed,
+            state: State::Failed(Error::from(ErrorKind::InvalidInput)),
         };
     }
-    let got = libc::read(file, &mut card[from..]);
-    if got < 0 {
-        return Reading {
-            bytes: from,
-            state: cut_or_failed(os::errno()),
-        };
-    }
-    if got == 0 {
-        return Reading {
+    match file.read(&mut card[from..]) {
+        Ok(0) => Reading {
             bytes: from,
             state: State::Ended,
-        };
-    }
-    let n = io::count(got, &card[from..]);
-    Reading {
-        bytes: from + n,
-        state: State::Going,
+        },
+        Ok(n) => Reading {
+            bytes: from + n,
+            state: State::Going,
+        },
+        Err(error) => Reading {
+            bytes: from,
+            state: cut_or_failed(error),
+        },
     }
 }
 
-// The file to its end, or as much of it as the buffer takes. Nothing says that a file ends, so the turns are counted down from a number that no run uses up.
-pub fn read_card(file: i32, card: &mut [u8]) -> Reading
-    ensures { IsPrefixLen result.«bytes» card.new }
+// The file to its end, or as much of it as the buffer takes. Nothing says that a file ends, so the turns are counted, to a number that no run comes to.
+pub fn read_card<R: Read>(file: &mut R, card: &mut [u8]) -> Reading
+    ensures within { IsPrefixLen result.«bytes» card.new }
+    ensures consumed { Consumes (R.remaining file.old) (R.remaining file.new) (take result.«bytes» card.new) }
+    ensures told { result.state ≡ Going → ⊥ }
+    ensures end { result.state ≡ Ended → result.«bytes» < length card.new → IsAtEnd (R.remaining file.new) }
 {
     let mut bytes = 0;
-    let mut turns = u64::MAX;
-    while 0 < turns {
+    for _ in 0..u64::MAX {
         let reading = read_on(file, card, bytes);
         let state = reading.state;
         let State::Going = state else {
             return reading;
         };
         bytes = reading.bytes;
-        turns -= 1;
     }
     Reading {
-        bytes: 0,
-        state: State::Failed,
+        bytes,
+        state: State::Failed(Error::from(ErrorKind::TimedOut)),
     }
+}
+
+// Writes a line: what failed, as the caller names it, and why. Where it cannot be written, nobody is told.
+pub fn fail<W: Write>(to: &mut W, what: &[u8], error: Error) {
+    let _ = to.write_all(what);
+    let _ = writeln!(to, ": {error}");
+}
+
+// A file's name, as the system's calls take it here: text.
+pub fn file_name(name: &[u8]) -> Result<&str, Error>
+    ensures { IfOk result (λ text. text.now ≡ name.now) }
+{
+    match str::from_utf8(name) {
+        Ok(text) => Ok(text),
+        Err(_) => Err(Error::new(ErrorKind::InvalidFilename, "The name is no UTF-8")),
+    }
+}
+
+// Why a name of more bytes than a name may have is not taken.
+pub fn name_too_long() -> Error {
+    Error::new(ErrorKind::InvalidFilename, "File name too long")
 }

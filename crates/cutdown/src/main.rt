@@ -1,40 +1,41 @@
 // Cuts the card on standard input down to what it holds, and writes the fresh card to standard output. A card that is refused is told on standard error, as
 // `refused` and the number, and so is a read or a write that fails; then nothing is written, or, where a write fails, perhaps a part.
-use card_input::{State, read_card};
+use card_input::{State, fail, read_card};
 use cutdown_card::Cutdown;
 use listing::Listed;
+use std::io::Write;
 
-fn tell(number: u64) {
+fn tell<E: Write>(errors: &mut E, number: u64) {
     let mut line = [0u8; 32];
     let Listed::Bytes(n) = listing::refused(&mut line, number) else {
         return;
     };
-    io::write_all(libc::STDERR_FILENO, &line[..n]);
+    let _ = errors.write_all(&line[..n]);
 }
 
-fn write(fresh: &[u8]) {
-    if !io::write_all(libc::STDOUT_FILENO, fresh) {
-        os::fail(b"cutdown: standard output");
+fn write<O: Write, E: Write>(output: &mut O, errors: &mut E, fresh: &[u8]) {
+    if let Err(error) = output.write_all(fresh) {
+        fail(errors, b"cutdown: standard output", error);
     }
 }
 
-fn cut(input: &[u8]) {
+fn cut<O: Write, E: Write>(output: &mut O, errors: &mut E, input: &[u8]) {
     let mut fresh = [0u8; 65536];
     match cutdown_card::cut_down(input, &mut fresh) {
-        Cutdown::Written(n) => write(&fresh[..n]),
-        Cutdown::Refused(number) => tell(number),
+        Cutdown::Written(n) => write(output, errors, &fresh[..n]),
+        Cutdown::Refused(number) => tell(errors, number),
         Cutdown::NoRoom => (),
     }
 }
 
-fn main() {
+fn main(rt: HostRuntime) {
+    let mut errors = rt.stderr();
     let mut input = [0u8; 65537];
-    let reading = read_card(libc::STDIN_FILENO, &mut input);
+    let reading = read_card(&mut rt.stdin(), &mut input);
     let n = reading.bytes;
-    let state = reading.state;
-    let State::Ended = state else {
-        os::fail(b"cutdown: standard input");
-        return;
-    };
-    cut(&input[..n]);
+    match reading.state {
+        State::Ended => cut(&mut rt.stdout(), &mut errors, &input[..n]),
+        State::Failed(error) => fail(&mut errors, b"cutdown: standard input", error),
+        State::Going => unreachable!(),
+    }
 }

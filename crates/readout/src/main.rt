@@ -1,26 +1,27 @@
 // Lists the card on standard input: the whole of it is read, a byte more than a card may have at most, and the library's text is written. A read or a write
 // that fails is said on standard error, and where the input could not be read to its end nothing is listed.
-use card_input::{State, read_card};
+use card_input::{State, fail, read_card};
 use listing::Listed;
+use std::io::Write;
 
-fn show(input: &[u8]) {
-    let mut out = [0u8; 420235];
-    let Listed::Bytes(n) = readout_text::list_card(input, &mut out) else {
+fn show<O: Write, E: Write>(output: &mut O, errors: &mut E, input: &[u8]) {
+    let mut text = [0u8; 420235];
+    let Listed::Bytes(n) = readout_text::list_card(input, &mut text) else {
         return;
     };
-    if !io::write_all(libc::STDOUT_FILENO, &out[..n]) {
-        os::fail(b"readout: standard output");
+    if let Err(error) = output.write_all(&text[..n]) {
+        fail(errors, b"readout: standard output", error);
     }
 }
 
-fn main() {
+fn main(rt: HostRuntime) {
+    let mut errors = rt.stderr();
     let mut input = [0u8; 65537];
-    let reading = read_card(libc::STDIN_FILENO, &mut input);
+    let reading = read_card(&mut rt.stdin(), &mut input);
     let n = reading.bytes;
-    let state = reading.state;
-    let State::Ended = state else {
-        os::fail(b"readout: standard input");
-        return;
-    };
-    show(&input[..n]);
+    match reading.state {
+        State::Ended => show(&mut rt.stdout(), &mut errors, &input[..n]),
+        State::Failed(error) => fail(&mut errors, b"readout: standard input", error),
+        State::Going => unreachable!(),
+    }
 }

@@ -6,7 +6,7 @@ use mathlib.Core.Bool.{Bool, true, false, cond, not}
 use mathlib.Core.List.{List}
 use Prim.Native.Nat.{ℕ, zero, suc, ◌-◌}
 use native.Mathlib.Omega.{arith}
-use lib.Dec.{leb, eqb}
+use lib.Dec.{leb}
 use lib.ListN.{length, get_or, take, replicate}
 use Rattle.fields.specs.Le.{le}
 use Rattle.calls.specs.Refusals.{refuse_if, log_refused}
@@ -16,7 +16,7 @@ use Rattle.report_count.specs.Sums.{plus}
 use Rattle.report.specs.declared.MeanAnswer.TheVariants.{Refused as no_mean}
 use Rattle.report.specs.Layout.{report_numbers, most_logs, all_within, numbers_arranged, report_arranged}
 use Rattle.report.specs.Feed.{feed_refusals, feed_refusal, feed_left, mean_of, sound_frames, mean_answer}
-use Rattle.report.specs.Claims.{empty_report, feed_all, logs_kept, sums, logs_sized, sound_sum, data_sum}
+use Rattle.report.specs.Claims.{empty_report, feed_all, logs_kept, sums, logs_sized}
 use Rattle.report.specs.Claims.{ReportSums, ReportKept, ReportNext, ReportMean, ReportArranged, ReportBound, ReportLowestFirst, ReportMeets, ReportRefused, ReportExamples}
 use Rattle.report.proofs.Bounds.{ok_small}
 use Rattle.report.proofs.Refusing.{length-numbers, feed_rises, refusal_is, report_ok, feed_passed}

@@ -1,12 +1,11 @@
 -- What a feeding leaves: read again, its numbers are the sums, and it is arranged.
 -- Assumes nothing.
-use mathlib.Core.Path.{◌≡◌, refl, sym, ap, ap₂, subst, ◌∙◌}
+use mathlib.Core.Path.{◌≡◌, refl, sym, ap, subst, ◌∙◌}
 use mathlib.Core.Bool.{Bool, true, false, cond}
 use mathlib.Core.List.{List, [], ◌∷◌, ◌++◌, append-nil}
-use Prim.Native.Nat.{ℕ, zero, suc, ◌+◌, ◌*◌, ◌/◌, ◌%◌, ◌≤◌, ◌<◌, ◌^◌}
+use Prim.Native.Nat.{ℕ, zero, suc, ◌*◌, ◌/◌, ◌%◌, ◌≤◌}
 use native.Mathlib.Omega.{arith}
-use lib.Dec.{eqb}
-use lib.ListN.{length, get_or, drop, length-drop}
+use lib.ListN.{length, get_or, drop}
 use lib.Seq.{drop-length}
 use borrow.Author.Tests.{eq-eqb}
 use Rattle.fields.specs.Le.{le_bytes}
@@ -18,15 +17,14 @@ use Rattle.report_frames.specs.Seen.{frames_read}
 use Rattle.report_frames.specs.Tally.{tally}
 use Rattle.report_count.specs.Sums.{plus}
 use Rattle.report_count.specs.Table.{NumbersFit}
-use Rattle.report.specs.declared.FeedAnswer.{FeedAnswer}
 use Rattle.report.specs.declared.FeedAnswer.TheVariants.{Fed as fed, Refused as refused}
-use Rattle.report.specs.Layout.{report_numbers, number_bytes, most_logs, numbers_arranged, report_arranged}
+use Rattle.report.specs.Layout.{report_numbers, number_bytes, numbers_arranged, report_arranged}
 use Rattle.report.specs.Internal.{NumbersOk}
 use Rattle.report.specs.Feed.{feed_refusal, feed_answer_by, feed_answer, fed_report, feed_left_by, feed_left, feed_number, mean_of, sound_frames, mean_answer}
 use Rattle.report.specs.declared.MeanAnswer.{MeanAnswer}
 use Rattle.report.specs.declared.MeanAnswer.TheVariants.{Mean as mean, Nothing as nothing, Refused as no_mean}
 use Rattle.report.proofs.Bounds.{ok_numbers, ok_small, fed_ok, length-fed}
-use Rattle.report.proofs.Refusing.{length-numbers, ReportOk, FeedPassed, feed_passed}
+use Rattle.report.proofs.Refusing.{length-numbers, FeedPassed}
 
 -- ---- the two cases
 

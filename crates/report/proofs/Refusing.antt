@@ -1,19 +1,17 @@
 -- What a feeding is refused by, from its tests; and what is known where it is not refused.
 -- Assumes nothing.
 use mathlib.Core.Path.{◌≡◌, refl, sym, ap, ap₂, ◌∙◌}
-use mathlib.Core.Logic.{◌⊎◌, inl, inr}
-use mathlib.Core.Bool.{Bool, true, false, not, ◌&&◌, false≢true}
+use mathlib.Core.Bool.{Bool, true, false, not, ◌&&◌}
 use mathlib.Core.List.{List}
-use Prim.Native.Nat.{ℕ, zero, suc, ◌*◌, ◌≤◌, ◌<◌}
+use Prim.Native.Nat.{ℕ, ◌*◌, ◌≤◌, ◌<◌}
 use native.Mathlib.Omega.{arith}
 use lib.Dec.{leb, eqb}
 use lib.ListN.{length, get_or, take, drop}
-use borrow.Author.Tests.{leb-false, le-leb, lt-leb, eqb-true, eq-eqb, ne_eqb, not-true, not-false}
+use borrow.Author.Tests.{leb-false, le-leb, lt-leb, eqb-true, eq-eqb, ne_eqb, not-false}
 use Rattle.calls.specs.Refusals.{refuse_if, first_refusal, log_refused}
-use Rattle.calls.proofs.Chain.{rising_above, none_applies, lowest_of}
+use Rattle.calls.proofs.Chain.{rising_above, none_applies}
 use Rattle.calls.proofs.Passed.{LogTaken, log_taken}
 use Rattle.queues.proofs.Both.{and_left, and_right}
-use Rattle.abi_queues.specs.Words.{words_from}
 use Rattle.abi_queues.proofs.Laws.{length-words_from}
 use Rattle.report.specs.Layout.{report_numbers, most_logs, most_frames, most_data, all_within, numbers_arranged, report_arranged}
 use Rattle.report.specs.Internal.{NumbersOk}
@@ -100,16 +98,16 @@ arranged_by_lem ws a b ea eb = sym (ap₂ (λ (a b : Bool). a && (b && leb (get_
 pub logs_over : (ws : List ℕ) → most_logs < get_or ws 0 0 → false ≡ numbers_arranged ws
 logs_over ws h = arranged_by_lem ws false _ (lt-leb (get_or ws 0 0) most_logs h) refl
 
-pub frames_over : (ws : List ℕ) (b : Bool) → b ≡ all_within (get_or ws 0 0 * most_frames) (take 10 (drop 1 ws)) → not b ≡ true → false ≡ numbers_arranged ws
+pub frames_over : (ws : List ℕ) (b : Bool) → b ≡ all_within (get_or ws 0 0 * most_frames) (take 10 (drop 1 ws)) → b ≡ false → false ≡ numbers_arranged ws
 frames_over ws b e h = go (leb (get_or ws 0 0) most_logs) refl
   where
     go : (a : Bool) → leb (get_or ws 0 0) most_logs ≡ a → false ≡ numbers_arranged ws
-    go true f = arranged_by_lem ws true false f (sym e ∙ not-true b h)
-    go false f = arranged_by_lem ws false false f (sym e ∙ not-true b h)
+    go true f = arranged_by_lem ws true false f (sym e ∙ h)
+    go false f = arranged_by_lem ws false false f (sym e ∙ h)
 
-pub bytes_decide : (ws : List ℕ) (b : Bool) → get_or ws 0 0 ≤ most_logs → b ≡ all_within (get_or ws 0 0 * most_frames) (take 10 (drop 1 ws)) → not b ≡ false
+pub bytes_decide : (ws : List ℕ) (b : Bool) → get_or ws 0 0 ≤ most_logs → b ≡ all_within (get_or ws 0 0 * most_frames) (take 10 (drop 1 ws)) → b ≡ true
     → leb (get_or ws 11 0) (get_or ws 0 0 * most_data) ≡ numbers_arranged ws
-bytes_decide ws b l e h = arranged_by_lem ws true true (le-leb (get_or ws 0 0) most_logs l) (sym e ∙ not-false b h)
+bytes_decide ws b l e h = arranged_by_lem ws true true (le-leb (get_or ws 0 0) most_logs l) (sym e ∙ h)
 
 pub report_short : (report : List ℕ) → (length report ≡ 96 → ⊥) → false ≡ report_arranged report
 unfolding report_arranged

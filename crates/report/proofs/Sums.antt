@@ -1,20 +1,19 @@
 -- Many logs fed one after another: the numbers are the sums.
 -- Assumes nothing.
 use mathlib.Core.Path.{◌≡◌, refl, sym, ap, ap₂, ◌∙◌}
-use mathlib.Core.Bool.{Bool, true, false, cond, not}
+use mathlib.Core.Bool.{Bool, true, false, cond}
 use mathlib.Core.List.{List, [], ◌∷◌}
-use Prim.Native.Nat.{ℕ, zero, suc, ◌+◌, ◌-◌, ◌≤◌, ◌<◌}
+use Prim.Native.Nat.{ℕ, zero, suc, ◌+◌, ◌-◌}
 use native.Mathlib.Omega.{arith}
 use lib.Dec.{leb}
 use lib.ListN.{length, get_or, take, replicate}
 use borrow.Author.Tests.{leb-true, leb-false}
-use Rattle.frame.specs.declared.FrameType.{FrameType}
 use Rattle.frame.specs.declared.FrameType.TheVariants.{Full as full, First as first, Middle as middle, Last as last}
 use Rattle.calls.specs.Refusals.{log_refused}
 use Rattle.report_frames.specs.declared.Seen.{Seen}
 use Rattle.report_frames.specs.declared.Seen.TheVariants.{Right as right, Wrong as wrong, Unreadable as unreadable, OverLong as over_long, EndOfLog as end_of_log}
 use Rattle.report_frames.specs.Seen.{frames_read}
-use Rattle.report_frames.specs.Tally.{row_of, is_right, one, times, data_bytes, tally}
+use Rattle.report_frames.specs.Tally.{row_of, is_right, one, times, tally}
 use Rattle.report_count.specs.Sums.{plus}
 use Rattle.report_count.proofs.Plus.{get_d_plus, length-plus, plus_assoc}
 use Rattle.report.specs.Layout.{report_numbers, most_logs, report_arranged}

@@ -1,7 +1,7 @@
 -- Claim.
 -- What is claimed of a report over a box of cards; each is proved in proofs/ under the same name in snake case.
 -- Assumes nothing.
-use Rattle.std.specs.Prelude.{◌≡◌, ◌⊎◌, Bool, true, false, cond, List, [], ◌∷◌, ℕ, zero, suc, ◌+◌, ◌*◌, ◌≤◌, ◌<◌, ◌^◌, leb, length, get_or, take, replicate}
+use Rattle.std.specs.Prelude.{◌≡◌, ◌⊎◌, Bool, true, false, cond, List, [], ◌∷◌, ℕ, zero, suc, ◌+◌, ◌≤◌, ◌<◌, ◌^◌, leb, length, get_or, take, replicate}
 use Rattle.slices.specs.Bytes.{zeros}
 use Rattle.calls.specs.Refusals.{refuse_if, log_refused}
 use Rattle.calls.specs.Claims.{LowestOf}

@@ -1,7 +1,7 @@
 -- Definition (02, Ticket 12).
 -- What feeding a log refuses, answers and leaves, and the mean.
 -- Assumes nothing.
-use Rattle.std.specs.Prelude.{Bool, true, false, cond, not, List, [], ◌∷◌, ℕ, zero, suc, ◌+◌, ◌/◌, ◌%◌, leb, get_or}
+use Rattle.std.specs.Prelude.{cond, not, List, [], ◌∷◌, ℕ, zero, suc, ◌+◌, ◌/◌, ◌%◌, leb, get_or}
 use Rattle.calls.specs.Refusals.{Refusal, refuse, first_refusal, log_refused}
 use Rattle.report_frames.specs.Seen.{frames_read}
 use Rattle.report_frames.specs.Tally.{tally}

@@ -1,6 +1,6 @@
 -- The loop over a log's frames: each count with what the frames ahead add is the count at the end.
 -- Assumes nothing.
-use mathlib.Core.Path.{◌≡◌, refl, sym, ap, ap₂, subst, ◌∙◌}
+use mathlib.Core.Path.{◌≡◌, refl, sym, ap, subst, ◌∙◌}
 use mathlib.Core.Bool.{Bool, true, false}
 use mathlib.Core.List.{List, [], ◌∷◌}
 use Prim.Native.Nat.{ℕ, zero, suc, ◌+◌, ◌*◌, ◌≤◌, ◌<◌}
@@ -15,7 +15,7 @@ use Rattle.frame.specs.Internal.{Arranged}
 use Rattle.report_frames.specs.declared.Seen.{Seen}
 use Rattle.report_frames.specs.declared.Seen.TheVariants.{Right as right, Wrong as wrong, Unreadable as unreadable, OverLong as over_long, EndOfLog as end_of_log}
 use Rattle.report_frames.specs.Seen.{seen, is_end, frames_ahead, frames_read}
-use Rattle.report_frames.specs.Tally.{is_right, is_wrong, is_unreadable, is_over_long, data_in, one, times, data_bytes, tally}
+use Rattle.report_frames.specs.Tally.{is_unreadable, is_over_long, data_in, one, times, data_bytes, tally}
 use Rattle.report_frames.proofs.Ahead.{left_arranged, fewer, none_ahead, one_ahead}
 use Rattle.report_frames.proofs.Claims.{fresh-arranged}
 use Rattle.report_count.specs.declared.Others.{Others}

@@ -1,4 +1,6 @@
 // A log's frames counted: the table of counts, an array of arrays, is passed by value through the step that counts one frame.
+#![tactic(auto)]
+
 ghost use Rattle.std.specs.Prelude.{◌≡◌, ◌+◌, ◌≤◌, ◌<◌, [], length, get_or, set};
 ghost use Rattle.crc32.specs.Wide.{TableReady};
 ghost use Rattle.frame.specs.Block.{blocks};

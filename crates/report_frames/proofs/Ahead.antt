@@ -3,18 +3,17 @@
 use mathlib.Core.Path.{◌≡◌, refl, sym, ap, ◌∙◌}
 use mathlib.Core.Bool.{Bool, true, false, cond, false≢true}
 use mathlib.Core.List.{List, [], ◌∷◌}
-use Prim.Native.Nat.{ℕ, zero, suc, ◌+◌, ◌*◌, ◌≤◌, ◌<◌}
+use Prim.Native.Nat.{ℕ, zero, suc, ◌≤◌, ◌<◌}
 use native.Mathlib.Omega.{arith}
 use lib.ListN.{length}
 use Rattle.frame.specs.declared.Reader.{Reader}
 use Rattle.frame.specs.declared.FrameAnswer.TheVariants.{NotAvailable as not_available}
-use Rattle.frame.specs.Block.{blocks}
-use Rattle.frame.specs.Reader.{place, read_frame, ahead}
+use Rattle.frame.specs.Reader.{read_frame, ahead}
 use Rattle.frame.specs.Internal.{Arranged}
 use Rattle.frame.proofs.Measure.{onward, ahead_falls}
 use Rattle.report_frames.specs.declared.Seen.{Seen}
 use Rattle.report_frames.specs.Seen.{type_said, seen_as, seen, is_end, frames_from, frames_ahead}
-use Rattle.report_frames.specs.Tally.{data_in, one, times, data_bytes}
+use Rattle.report_frames.specs.Tally.{one, times}
 
 module _ (log : List ℕ) where
   -- where the next frame is not the end of log

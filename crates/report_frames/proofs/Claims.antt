@@ -1,16 +1,14 @@
 -- The claims.
 -- Assumes nothing.
-use mathlib.Core.Path.{◌≡◌, refl, sym, ap, ◌∙◌}
+use mathlib.Core.Path.{◌≡◌, refl}
 use mathlib.Core.Bool.{Bool, true, false, cond}
 use mathlib.Core.List.{List, [], ◌∷◌}
-use Prim.Native.Nat.{ℕ, zero, suc, ◌+◌, ◌*◌, ◌≤◌, ◌<◌}
+use Prim.Native.Nat.{ℕ, zero, suc, ◌+◌, ◌*◌, ◌≤◌}
 use native.Mathlib.Omega.{arith}
-use lib.ListN.{length}
 use Rattle.frame.specs.declared.Reader.{Reader}
 use Rattle.frame.specs.Block.{blocks}
-use Rattle.frame.specs.Reader.{fresh, place, read_frame, used_of, used, ahead}
+use Rattle.frame.specs.Reader.{fresh, place, read_frame, ahead}
 use Rattle.frame.specs.Internal.{Arranged}
-use Rattle.report_frames.specs.declared.Seen.{Seen}
 use Rattle.report_frames.specs.Seen.{seen, is_end, frames_from, frames_ahead, frames_read}
 use Rattle.report_frames.specs.Tally.{row_of, is_right, is_wrong, is_unreadable, is_over_long, data_in, one, times, data_bytes, tally}
 use Rattle.report_frames.specs.Claims.{FramesEnd, HeaderThere, UnreadableOnly, FramesBound, DataBound, TallyExamples}

@@ -1,6 +1,6 @@
 -- Where the next header stands, by the tests of the code, and what is said there.
 -- Assumes nothing.
-use mathlib.Core.Path.{◌≡◌, refl, sym, ap, ap₂, ◌∙◌}
+use mathlib.Core.Path.{◌≡◌, sym, ap, ap₂, ◌∙◌}
 use mathlib.Core.Bool.{Bool, true, false, ◌||◌}
 use mathlib.Core.List.{List}
 use Prim.Native.Nat.{ℕ, suc, ◌+◌, ◌*◌, ◌-◌, ◌≤◌, ◌<◌}
@@ -15,7 +15,7 @@ use Rattle.frame.specs.declared.FrameAnswer.{FrameAnswer}
 use Rattle.frame.specs.declared.FrameAnswer.TheVariants.{Corrupt as corrupt}
 use Rattle.frame.specs.declared.FrameRead.{FrameRead}
 use Rattle.frame.specs.Frame.{type_of, header_of}
-use Rattle.frame.specs.Reader.{place, must_move, read_frame}
+use Rattle.frame.specs.Reader.{must_move, read_frame}
 use Rattle.frame.proofs.Step.{must_spoilt, must_full}
 use Rattle.report_frames.specs.declared.Seen.{Seen}
 use Rattle.report_frames.specs.Seen.{header_place_when, header_place, type_said, seen_as, seen}

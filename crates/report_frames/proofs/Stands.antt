@@ -3,7 +3,7 @@
 use mathlib.Core.Path.{◌≡◌, refl, sym, ap, subst, ◌∙◌}
 use mathlib.Core.Bool.{Bool, true, false, false≢true}
 use mathlib.Core.List.{List, ◌∷◌}
-use Prim.Native.Nat.{ℕ, suc, ◌+◌, ◌*◌, ◌≤◌, ◌<◌}
+use Prim.Native.Nat.{ℕ, suc, ◌+◌, ◌*◌, ◌≤◌}
 use native.Mathlib.Omega.{arith}
 use lib.Dec.{leb, ltb, eqb}
 use lib.ListN.{take, drop}
@@ -18,7 +18,6 @@ use Rattle.frame.specs.declared.FrameAnswer.TheVariants.{Sound as sound, Corrupt
 use Rattle.frame.specs.Frame.{type_of, all_zero, header_of, content_of}
 use Rattle.frame.specs.Block.{blocks}
 use Rattle.frame.specs.Reader.{place, judge, look, read_at, must_move, moved, read_frame}
-use Rattle.frame.specs.Internal.{Arranged}
 use Rattle.report_frames.specs.declared.Seen.TheVariants.{Unreadable as unreadable}
 use Rattle.report_frames.specs.Seen.{header_place_when, header_place, type_said, wrong_as, seen_as, is_end}
 use Rattle.report_frames.specs.Tally.{data_in}

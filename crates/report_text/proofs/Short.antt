@@ -1,6 +1,6 @@
 -- How long the text of a report gets, and that it fits the buffer; and some lines, computed.
 -- Assumes nothing.
-use mathlib.Core.Path.{◌≡◌, refl, sym, ap, ◌∙◌}
+use mathlib.Core.Path.{◌≡◌, refl, sym, ap}
 use mathlib.Core.Bool.{Bool, true, false, cond}
 use mathlib.Core.List.{List, [], ◌∷◌, ◌++◌}
 use Prim.Native.Nat.{ℕ, zero, suc, ◌+◌, ◌/◌, ◌%◌, ◌≤◌, ◌<◌, ◌^◌}
@@ -16,7 +16,7 @@ use Rattle.report.specs.declared.MeanAnswer.TheVariants.{Refused as no_mean}
 use Rattle.report.specs.Layout.{report_numbers, report_arranged}
 use Rattle.report.specs.Feed.{mean_of, sound_frames, mean_answer}
 use Rattle.report.proofs.Claims.{report_bound}
-use Rattle.report_text.specs.Text.{row_line, table_lines, other_lines, mean_line, count_lines, report_text, refused_line, mean_word, remainder_word, over_word, no_mean_line, wrong_word}
+use Rattle.report_text.specs.Text.{row_line, table_lines, other_lines, mean_line, count_lines, report_text, refused_line, mean_word, remainder_word, over_word, wrong_word}
 use Rattle.report_text.specs.Text.{logs_word, full_word, first_word, middle_word, last_word, unreadable_word, over_long_word, data_word}
 use Rattle.report_text.specs.Claims.{ReportShort, ReportRoom, TextExamples}
 

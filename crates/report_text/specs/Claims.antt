@@ -1,7 +1,7 @@
 -- Claim.
 -- What is claimed of the text for a report; each is proved in proofs/ under the same name in snake case.
 -- Assumes nothing.
-use Rattle.std.specs.Prelude.{◌≡◌, List, [], ◌∷◌, ◌++◌, ℕ, ◌≤◌, length}
+use Rattle.std.specs.Prelude.{◌≡◌, List, [], ◌∷◌, ℕ, ◌≤◌, length}
 use Rattle.listing.specs.declared.Listed.TheVariants.{Bytes as bytes}
 use Rattle.listing.specs.Writing.{listed}
 use Rattle.report.specs.declared.MeanAnswer.TheVariants.{Mean as mean, Nothing as nothing}

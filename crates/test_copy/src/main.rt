@@ -2,21 +2,22 @@
 // are a title of 32, the log's length and how many of its bytes are stored, the lengths of the target and of the scratch, three bytes each, the low one first,
 // and a place in the table of queues, from 1 on, with a byte to put there before the copy. A line has the title, replay's answer and the copy's, and CRC-32 of
 // the target's whole blocks, of what lies after them and of the scratch. The target is full of hex ee before, the scratch of hex 5a.
-use libc::STDOUT_FILENO;
 use multi_record_log::{CopyAnswer, ReplayAnswer};
 
+const STDOUT: i32 = 1;
+
 fn text(s: &[u8]) {
-    io::write_all(STDOUT_FILENO, s);
+    io::write_all(STDOUT, s);
 }
 
 fn number(label: &[u8], n: u64) {
     text(label);
-    io::print_decimal(STDOUT_FILENO, n);
+    io::print_decimal(STDOUT, n);
 }
 
 fn hex(label: &[u8], c: u32) {
     text(label);
-    io::print_hex(STDOUT_FILENO, c as u64, 8);
+    io::print_hex(STDOUT, c as u64, 8);
 }
 
 fn sum(label: &[u8], s: &[u8]) {

@@ -1,6 +1,8 @@
 // Power lost during a record (02, Ticket 6): a record is written after another, and from the cut's place on the log is zeros.
 // Each line is one cut: its place, all reads, where a writer resumes, and all reads after one more record was written there
 // (13 where it does not fit); `log_text` says how. What must be printed is worked out by examples/cuts/make.py.
+#![tactic(auto)]
+
 use test_log_text::{clear, count_up, number, put, read_into, resume, text};
 
 // The lengths of the record before, of the one that is cut, and of the one written after reopening.

@@ -1,23 +1,25 @@
 // Frames of data of each length at which the copying goes another way, with an empty table and with the wide one. A line has a length n; a record of n
 // bytes, a Full frame, with its header; one of 2 n bytes over a block's end, First and Last of n bytes each, with both headers; and n bytes copied and then
 // 1,000 more, with the register after each. After each of the three stands CRC-32 of the whole log, which was full of hex ee before.
+#![tactic(auto)]
+
 ghost use Rattle.std.specs.Prelude.{◌+◌, ◌≤◌, length};
 ghost use Rattle.crc32.specs.Wide.{TableReady};
 
-use libc::STDOUT_FILENO;
+const STDOUT: i32 = 1;
 
 fn text(s: &[u8]) {
-    io::write_all(STDOUT_FILENO, s);
+    io::write_all(STDOUT, s);
 }
 
 // A checksum or a register in eight hexadecimal digits.
 fn sum(label: &[u8], c: u32) {
     text(label);
-    io::print_hex(STDOUT_FILENO, c as u64, 8);
+    io::print_hex(STDOUT, c as u64, 8);
 }
 
 fn byte(b: u8) {
-    io::print_hex(STDOUT_FILENO, b as u64, 2);
+    io::print_hex(STDOUT, b as u64, 2);
 }
 
 fn bytes(s: &[u8]) {
@@ -78,7 +80,7 @@ fn parts(table: &[u32], data: &[u8], n: usize)
 fn line(table: &[u32], data: &[u8], n: usize)
     requires { TableReady table.now }
 {
-    io::print_decimal(STDOUT_FILENO, n as u64);
+    io::print_decimal(STDOUT, n as u64);
     text(b":");
     if n <= 32761 {
         if 65522 <= data.len() {

@@ -2,36 +2,36 @@
 // what was said of it and what should be said, by Python's decoder (`bytes.decode`, UTF-8, strict).
 ghost use Rattle.std.specs.Prelude.{◌+◌, ◌<◌, length};
 
-use libc::STDOUT_FILENO;
+use crate::STDOUT;
 
 // The bytes in hex, or a dash where there are none.
 fn print_bytes(name: &[u8]) {
     if name.len() == 0 {
-        io::write_all(STDOUT_FILENO, b"-");
+        io::write_all(STDOUT, b"-");
         return;
     }
     let mut i = 0;
     while i < name.len() {
-        io::print_hex(STDOUT_FILENO, name[i] as u64, 2);
+        io::print_hex(STDOUT, name[i] as u64, 2);
         i += 1;
     }
 }
 
 fn print_answer(taken: bool) {
     if taken {
-        io::write_all(STDOUT_FILENO, b"taken");
+        io::write_all(STDOUT, b"taken");
     } else {
-        io::write_all(STDOUT_FILENO, b"refused");
+        io::write_all(STDOUT, b"refused");
     }
 }
 
 // Ends a line: what was said, and what should be.
 fn print_answers(said: bool, right: bool) {
-    io::write_all(STDOUT_FILENO, b": ");
+    io::write_all(STDOUT, b": ");
     print_answer(said);
-    io::write_all(STDOUT_FILENO, b", should be ");
+    io::write_all(STDOUT, b", should be ");
     print_answer(right);
-    io::write_all(STDOUT_FILENO, b"\n");
+    io::write_all(STDOUT, b"\n");
 }
 
 // Runs the name at a place of a list, and answers where the next one stands.
@@ -170,9 +170,9 @@ fn long_name(place: usize, first: u8, second: u8) -> bool
 fn run_long(place: usize, first: u8, second: u8, right: bool)
     requires { place + 1 < 1000 }
 {
-    io::write_all(STDOUT_FILENO, b"61 1000 times, at ");
-    io::print_decimal(STDOUT_FILENO, place as u64);
-    io::write_all(STDOUT_FILENO, b" ");
+    io::write_all(STDOUT, b"61 1000 times, at ");
+    io::print_decimal(STDOUT, place as u64);
+    io::write_all(STDOUT, b" ");
     print_bytes(&[first, second]);
     print_answers(long_name(place, first, second), right);
 }

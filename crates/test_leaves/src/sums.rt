@@ -1,12 +1,12 @@
 // Runs published CRC-32 values through the code and writes each beside what it should be.
 ghost use Rattle.crc32.specs.Wide.{TableReady};
 
-use libc::STDOUT_FILENO;
+use crate::STDOUT;
 
 // A label and a checksum in eight hexadecimal digits.
 fn value(label: &[u8], sum: u32) {
-    io::write_all(STDOUT_FILENO, label);
-    io::print_hex(STDOUT_FILENO, sum as u64, 8);
+    io::write_all(STDOUT, label);
+    io::print_hex(STDOUT, sum as u64, 8);
 }
 
 // The checksum of a frame whose type byte is the message's first byte, by each of the three ways.
@@ -27,7 +27,7 @@ fn framed(table: &[u32], first: u8, rest: &[u8])
 fn line(table: &[u32], name: &[u8], message: &[u8], expected: u32)
     requires { TableReady table.now }
 {
-    io::write_all(STDOUT_FILENO, name);
+    io::write_all(STDOUT, name);
     value(b": should be ", expected);
     value(
         b", update_all ",
@@ -36,7 +36,7 @@ fn line(table: &[u32], name: &[u8], message: &[u8], expected: u32)
     if 0 < message.len() {
         framed(table, message[0], &message[1..]);
     }
-    io::write_all(STDOUT_FILENO, b"\n");
+    io::write_all(STDOUT, b"\n");
 }
 
 fn texts(table: &[u32])

@@ -1,5 +1,7 @@
 // The unstarred edges of frames and the record log, on real logs in memory. Each line prints what came, and after the bar
 // what should come; `log_text` says how.
+#![tactic(auto)]
+
 use test_log_text::{clear, count_up, number, put, put_counted, read_into, text};
 
 // One byte of the log changed.

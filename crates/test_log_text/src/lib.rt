@@ -1,6 +1,8 @@
 // What reading a log of records gives, as text on standard output. Every record is the first bytes of one run of data.
 // Answers: rN a record of N bytes as they were written (rN? where they are others), C a wrong checksum, T an unknown type, P a length past the block,
 // X a record longer than the scratch, E end of log; 13 where the log had no room.
+#![tactic(auto)]
+
 use frame::{Corruption, Reader};
 use recordlog::{RecordAnswer, RecordWrite};
 

@@ -1,8 +1,10 @@
 // Runs the edges of readings by planes, both ways, and prints for each call the width, the lengths of payload and target, the answer's number,
 // and the bytes of the target or whether they are as before. examples/planes/make.py works out from document 02's text what it must print.
+#![tactic(auto)]
+
 ghost use Rattle.std.specs.Prelude.{◌≡◌, ◌≤◌, length};
 
-use libc::STDOUT_FILENO;
+const STDOUT: i32 = 1;
 
 // The numbers from 0 on, 251 of them over and over.
 fn count_up(s: &mut [u8]) {
@@ -16,36 +18,36 @@ fn count_up(s: &mut [u8]) {
 fn print_bytes(s: &[u8]) {
     let mut i = 0;
     while i < s.len() {
-        io::print_hex(STDOUT_FILENO, s[i] as u64, 2);
+        io::print_hex(STDOUT, s[i] as u64, 2);
         i += 1;
     }
 }
 
 // Starts a line: what is called.
 fn print_call(name: &[u8], width: u64, payload: usize, target: usize) {
-    io::write_all(STDOUT_FILENO, name);
-    io::write_all(STDOUT_FILENO, b" width ");
-    io::print_decimal(STDOUT_FILENO, width);
-    io::write_all(STDOUT_FILENO, b" payload ");
-    io::print_decimal(STDOUT_FILENO, payload as u64);
-    io::write_all(STDOUT_FILENO, b" target ");
-    io::print_decimal(STDOUT_FILENO, target as u64);
-    io::write_all(STDOUT_FILENO, b": ");
+    io::write_all(STDOUT, name);
+    io::write_all(STDOUT, b" width ");
+    io::print_decimal(STDOUT, width);
+    io::write_all(STDOUT, b" payload ");
+    io::print_decimal(STDOUT, payload as u64);
+    io::write_all(STDOUT, b" target ");
+    io::print_decimal(STDOUT, target as u64);
+    io::write_all(STDOUT, b": ");
 }
 
 // Ends a line: the answer's number; the target's bytes where nothing is refused, else whether they are as before.
 fn print_answer(number: u64, before: &[u8], target: &[u8]) {
-    io::print_decimal(STDOUT_FILENO, number);
+    io::print_decimal(STDOUT, number);
     if number == 0 {
-        io::write_all(STDOUT_FILENO, b" [");
+        io::write_all(STDOUT, b" [");
         print_bytes(target);
-        io::write_all(STDOUT_FILENO, b"]");
+        io::write_all(STDOUT, b"]");
     } else if slices::same(before, target) {
-        io::write_all(STDOUT_FILENO, b" as before");
+        io::write_all(STDOUT, b" as before");
     } else {
-        io::write_all(STDOUT_FILENO, b" changed");
+        io::write_all(STDOUT, b" changed");
     }
-    io::write_all(STDOUT_FILENO, b"\n");
+    io::write_all(STDOUT, b"\n");
 }
 
 fn to_planes(payload: &[u8], width: u64, before: &[u8], target: &mut [u8]) {

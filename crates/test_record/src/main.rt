@@ -1,22 +1,25 @@
 // Runs edge records through `record`, and prints for each its bytes, what was answered and what
 // should be: the type, the position, where the name starts and how long it is, and for an append
 // each item, with its position, where its payload starts and how long it is, and how the items end.
+#![tactic(auto)]
+
 ghost use Rattle.std.specs.Prelude.{◌+◌, ◌<◌, ◌≤◌, length};
 
-use libc::STDOUT_FILENO;
 use record::{EncodedLen, MultiPlexedRecord, MultiRecord, NextItem, RecordType, Written};
 
+const STDOUT: i32 = 1;
+
 fn say(text: &[u8]) {
-    io::write_all(STDOUT_FILENO, text);
+    io::write_all(STDOUT, text);
 }
 
 fn print_number(n: u64) {
     say(b" ");
-    io::print_decimal(STDOUT_FILENO, n);
+    io::print_decimal(STDOUT, n);
 }
 
 fn print_byte(b: u8) {
-    io::print_hex(STDOUT_FILENO, b as u64, 2);
+    io::print_hex(STDOUT, b as u64, 2);
 }
 
 fn print_bytes(s: &[u8]) {

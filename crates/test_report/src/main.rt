@@ -1,8 +1,9 @@
 // Feeds logs to a report and asks for the mean, as standard input says, and prints each answer with the report's numbers. An item is its kind, then two lengths of
 // three bytes each, the low one first: how long a run of bytes is and how many of its bytes are stored; these follow, and zeros up to its length. Kind 0 is a
 // report to go on with, 1 a log that is fed, 2 a question for the mean. examples/report/make.py works out from the documents' text what is to be printed.
-use libc::STDOUT_FILENO;
 use report::MeanAnswer;
+
+const STDOUT: i32 = 1;
 
 // No more items.
 const STOP: usize = 1000;
@@ -12,12 +13,12 @@ fn length(low: u8, middle: u8, high: u8) -> usize {
 }
 
 fn print(text: &[u8]) {
-    io::write_all(STDOUT_FILENO, text);
+    io::write_all(STDOUT, text);
 }
 
 fn print_number(word: &[u8], n: u64) {
     print(word);
-    io::print_decimal(STDOUT_FILENO, n);
+    io::print_decimal(STDOUT, n);
 }
 
 // The whole numbers of 8 bytes.

@@ -11,12 +11,11 @@ pub loop-i-init : goal.loop-i-init
 loop-i-init c = (omega arith, refl)
 
 pub loop-i-preserved : goal.loop-i-preserved
-loop-i-preserved c =
-    (
-      omega arith,
-      ap (λ (r : ℕ). run r (bits (drop (c.loop-i.i + 8) c.args.«data».now))) c.eight-c.ensures
-          ∙ run_lent c.loop-i.c c.loop-i.i (8) c.args.«data».now ∙ c.loop-i.invariant.1,
-    )
+loop-i-preserved c = (
+  omega arith,
+  ap (λ (r : ℕ). run r (bits (drop (c.loop-i.i + 8) c.args.«data».now))) c.eight-c.ensures
+      ∙ run_lent c.loop-i.c c.loop-i.i (8) c.args.«data».now ∙ c.loop-i.invariant.1,
+)
 
 pub returns : goal.returns
 returns c =

@@ -10,12 +10,11 @@ pub loop-i-init : goal.loop-i-init
 loop-i-init c = (omega arith, refl)
 
 pub loop-i-preserved : goal.loop-i-preserved
-loop-i-preserved c =
-    (
-      omega arith,
-      ap (λ (r : ℕ). run r (bits (drop (c.loop-i.i + 1) c.args.«data».now))) c.byte_by_halves-c.ensures
-          ∙ run-next c.loop-i.c c.loop-i.i c.args.«data».now (omega arith) ∙ c.loop-i.invariant.1,
-    )
+loop-i-preserved c = (
+  omega arith,
+  ap (λ (r : ℕ). run r (bits (drop (c.loop-i.i + 1) c.args.«data».now))) c.byte_by_halves-c.ensures
+      ∙ run-next c.loop-i.c c.loop-i.i c.args.«data».now (omega arith) ∙ c.loop-i.invariant.1,
+)
 
 pub returns : goal.returns
 returns c = sym (run_none c.loop-i.c c.loop-i.i _ (omega arith)) ∙ c.loop-i.invariant.1

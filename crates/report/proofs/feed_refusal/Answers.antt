@@ -1,0 +1,20 @@
+-- `report::feed_refusal` meets its contract.
+-- Assumes nothing.
+use mathlib.Core.Path.{sym, ◌∙◌}
+use Rattle.report.proofs.Refusing.{by_log, by_report, by_full, by_none, full_by, room_by_lem}
+use Rattle.report.proofs.feed_refusal.Goals as goal
+
+pub returns-then-log_refused : goal.returns-then-log_refused
+returns-then-log_refused c = by_log _ _ (sym c.log_refused.ensures ∙ c.if-log_refused.true)
+
+pub returns-then-not-report_arranged : goal.returns-then-not-report_arranged
+returns-then-not-report_arranged c = by_report _ _ (sym c.log_refused.ensures ∙ c.if-log_refused.false) (sym c.report_arranged.ensures ∙ c.if-not-report_arranged.true)
+
+pub logs_fed-requires : goal.logs_fed-requires
+logs_fed-requires c = sym c.report_arranged.ensures ∙ c.if-not-report_arranged.false
+
+pub returns-then-logs_fed-ge-MAX_LOGS : goal.returns-then-logs_fed-ge-MAX_LOGS
+returns-then-logs_fed-ge-MAX_LOGS c = by_full _ _ (sym c.log_refused.ensures ∙ c.if-log_refused.false) (sym c.report_arranged.ensures ∙ c.if-not-report_arranged.false) (full_by _ _ c.logs_fed.ensures c.if-logs_fed-ge-MAX_LOGS.true)
+
+pub returns : goal.returns
+returns c = by_none _ _ (sym c.log_refused.ensures ∙ c.if-log_refused.false) (sym c.report_arranged.ensures ∙ c.if-not-report_arranged.false) (room_by_lem _ _ c.logs_fed.ensures c.if-logs_fed-ge-MAX_LOGS.false)

@@ -1,0 +1,7 @@
+-- `report_text::put_row` meets its contract.
+-- Assumes nothing.
+use Rattle.report_text.proofs.Pieces.{row_on}
+use Rattle.report_text.proofs.put_row.Goals as goal
+
+pub returns : goal.returns
+returns c = row_on _ _ _ c.put_numbered-p.ensures c.put_number_line.ensures

@@ -1,0 +1,11 @@
+-- `test_record::print_items` meets its contract. The measure: how many bytes there are from where the items to come start.
+-- Assumes nothing.
+use Prim.Native.Nat.{◌+◌, ◌-◌}
+use lib.ListN.{length}
+use Rattle.test_record.proofs.print_items.Given as goal
+
+abbrev pub invariant-loop-position : goal.invariant-loop-position
+invariant-loop-position l = Unit {0}
+
+abbrev pub decreases-loop-position : goal.decreases-loop-position
+decreases-loop-position l = length l.s + 1 - l.left.start
