@@ -1,4 +1,6 @@
 // The exported entries, for C and Rust: include/mrecordlog.h says what each does. The lent tables are bytes of any length, and answers are numbers.
+#![tactic(auto)]
+
 mod answers;
 mod box_report;
 mod byte_planes;
