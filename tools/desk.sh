@@ -48,7 +48,7 @@ up_to_date() { # PROGRAM
     local folders
     folders=$(crates_of "$1" | sed "s|^|$root/crates/|")
     # shellcheck disable=SC2086
-    [ -z "$(find $folders \( -name '*.rt' -o -name '*.antt' \) -newer "$root/target/bin/$1" -print -quit 2>/dev/null)" ]
+    [ -z "$(find $folders -name out -prune -o \( -name '*.rt' -o -name '*.antt' \) -newer "$root/target/bin/$1" -print -quit 2>/dev/null)" ]
 }
 
 # How many crates the build has proved so far, by its text. Those that an earlier run proved are not told there.
