@@ -48,21 +48,22 @@ up_to_date() { # PROGRAM
     local folders
     folders=$(crates_of "$1" | sed "s|^|$root/crates/|")
     # shellcheck disable=SC2086
-    [ -z "$(find $folders \( -name '*.rt' -o -name '*.antt' \) -newer "$root/target/bin/$1" -print -quit 2>/dev/null)" ]
+    [ -z "$(find $folders -name out -prune -o \( -name '*.rt' -o -name '*.antt' \) -newer "$root/target/bin/$1" -print -quit 2>/dev/null)" ]
 }
 
-# How many crates the build has got through so far, by its text.
-so_far() { grep -c '^rt: [a-z0-9_]* proved' "$1" 2>/dev/null; }
+# How many crates the build has proved so far, by its text. Those that an earlier run proved are not told there.
+so_far() { grep -c '^logic=proved' "$1" 2>/dev/null; }
 
-# Proves and builds the program where that is due. The prover's text goes to a file; a line says how far it has come.
+# Proves and builds the program where that is due: it is run once with no input, which is how it is built, and kept. The prover's text goes to a file; a line
+# says how far it has come.
 built() { # PROGRAM
     up_to_date "$1" && return
     command -v rt >/dev/null || fail 'the program is not built yet, and rt, which proves and builds it, is not on the path'
     local text=$root/target/build-$1.txt all building done last=
     all=$(crates_of "$1" | wc -l)
-    mkdir -p "$root/target" && : >"$text" || fail "$text: cannot be written"
+    mkdir -p "$root/target/bin" && : >"$text" || fail "$text: cannot be written"
     say "the program is proved and built first, $all crates, which takes some minutes; the prover's text is in target/build-$1.txt"
-    (cd "$root" && exec rt check "$1" </dev/null >"$text" 2>&1) &
+    (cd "$root/crates/$1" && exec rt run </dev/null >"$text" 2>&1) &
     building=$!
     while kill -0 "$building" 2>/dev/null; do
         done=$(so_far "$text")
@@ -74,7 +75,7 @@ built() { # PROGRAM
     done
     [ ! -t 2 ] || printf '\n' >&2
     wait "$building" || fail "the program could not be built: target/build-$1.txt says why"
-    touch "$root/target/bin/$1"
+    cp "$root/crates/$1/out/$1" "$root/target/bin/$1" || fail "target/bin/$1: cannot be written"
 }
 
 # Writes a text to standard output, or says why it cannot.

@@ -1,7 +1,7 @@
 // A card read from an open file, or from whatever else gives bytes; the names of files; and the line that says what failed.
 #![tactic(auto)]
 
-ghost use Rattle.std.specs.Prelude.{◌≡◌, IfOk, ◌<◌, ◌≤◌, ◌-◌, take, drop, length};
+ghost use Rattle.std.specs.Prelude.{◌≡◌, IfOk, OnErr, IsUtf8, ◌<◌, ◌≤◌, ◌-◌, take, drop, length};
 ghost use Rattle.std.specs.Io.KnownBytes.{Consumes, IsAtEnd};
 ghost use Rattle.io.specs.Counts.{IsPrefixLen};
 ghost use Rattle.card_input.specs.declared.State.TheVariants.{Going, Ended};
@@ -25,7 +25,7 @@ pub struct Reading {
 
 // What a read that failed means: a signal cut it before a byte came, and it is done again, or there is no more to be had.
 fn cut_or_failed(error: Error) -> State
-    ensures { result ≡ Ended → ⊥ }
+    ensures { ¬ (result ≡ Ended) }
 {
     if error.kind() == ErrorKind::Interrupted {
         State::Going
@@ -68,7 +68,7 @@ fn read_on<R: Read>(file: &mut R, card: &mut [u8], from: usize) -> Reading
 pub fn read_card<R: Read>(file: &mut R, card: &mut [u8]) -> Reading
     ensures within { IsPrefixLen result.«bytes» card.new }
     ensures consumed { Consumes (R.remaining file.old) (R.remaining file.new) (take result.«bytes» card.new) }
-    ensures told { result.state ≡ Going → ⊥ }
+    ensures told { ¬ (result.state ≡ Going) }
     ensures end { result.state ≡ Ended → result.«bytes» < length card.new → IsAtEnd (R.remaining file.new) }
 {
     let mut bytes = 0;
@@ -94,7 +94,8 @@ pub fn fail<W: Write>(to: &mut W, what: &[u8], error: Error) {
 
 // A file's name, as the system's calls take it here: text.
 pub fn file_name(name: &[u8]) -> Result<&str, Error>
-    ensures { IfOk result (λ text. text.now ≡ name.now) }
+    ensures text { IfOk result (λ text. text.now ≡ name.now) }
+    ensures refused { OnErr result (¬ (IsUtf8 name.now)) }
 {
     match str::from_utf8(name) {
         Ok(text) => Ok(text),

@@ -1,0 +1,12 @@
+-- `test_report::set_report` is safe.
+-- Assumes nothing.
+use mathlib.Core.Path.{sym}
+use lib.Seq.{length-take-le}
+use native.Mathlib.Omega.{arith}
+use Rattle.test_report.proofs.set_report.Goals as goal
+
+pub slice_bounds-read_bytes-end-2 : goal.slice_bounds-read_bytes-end-2
+slice_bounds-read_bytes-end-2 c = sym (length-take-le _ _ (omega arith))
+
+pub slice_bounds-print_numbers-end-2 : goal.slice_bounds-print_numbers-end-2
+slice_bounds-print_numbers-end-2 c = sym (length-take-le _ _ (omega arith))
