@@ -89,7 +89,7 @@ class Turn:
             own = self.step.get(p) or ["", ""]
             return own[0] and stem(own[0]) == stem(parts[0])
 
-        if not fits(place) and not near_fits(place):
+        if not fits(place) and (GIVEN.match(parts[0].replace("-", "_")) or not near_fits(place)):
             chain, p = [], self.goal
             while p:
                 chain.append(p)
@@ -110,7 +110,8 @@ class Turn:
                 return None, [arm[0], best[0]] + parts[1 + len(best[1]) :]
         if GIVEN.match(old) and parts[1:2] == ["given"]:
             var = [v for v, s in self.typed[self.index[place]] if s == old]
-            if var:
+            # what the type says of the value that the goal has; of an earlier value it is the step's own fact
+            if var and [var[0], old] in [list(x) for x in self.typed[self.index[self.goal]]]:
                 return None, ["type_inv", var[0]] + parts[2:]
         return None, [new] + parts[1:]
 
