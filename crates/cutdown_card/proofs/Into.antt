@@ -20,10 +20,9 @@ use Rattle.read_step.specs.declared.ReplayAnswer.{ReplayAnswer}
 use Rattle.read_step.specs.declared.ReplayAnswer.TheVariants.{Replayed as replayed, Refused as replay_refused}
 use Rattle.contracts.specs.Promises.{replay_answer_by, replay_answer, table_short, replay_refusals, replayed_with, replay_lent, ReplayKept}
 use Rattle.contracts.specs.Turning.{QueuesReplayed}
-use Rattle.contracts.specs.Numbers.{number_of}
 use Rattle.contracts.proofs.ReplayTable.{queues_kept, replayed_long, replay_arranged}
 use Rattle.contracts.proofs.Demands.{replays_as, legal_by}
-use Rattle.copy_records.specs.Copy.{CopyLent, lent_of, copy_refusal, copied, copied_by, copy_of}
+use Rattle.copy_records.specs.Copy.{CopyLent, lent_of, copy_refusal, copied_by, copy_of}
 use Rattle.copy_records.specs.Typed.{QueuesTyped}
 use Rattle.copy_records.proofs.Left.{copy_meets}
 use Rattle.copy_records.proofs.Memory.{memory_typed}
@@ -31,8 +30,8 @@ use Rattle.copy_write.specs.declared.CopyAnswer.{CopyAnswer}
 use Rattle.copy_write.specs.declared.CopyAnswer.TheVariants.{Copied as copy_done, Refused as copy_refused}
 use Rattle.copy_contracts.specs.Promises.{copy_numbers, CopyKept}
 use Rattle.cutdown_card.specs.declared.Cutdown.{Cutdown}
-use Rattle.cutdown_card.specs.declared.Cutdown.TheVariants.{Written, Refused}
-use Rattle.cutdown_card.specs.Cutdown.{Cut, lent_for, cut_by, cut_into, answered_by, CutTyped}
+use Rattle.cutdown_card.specs.declared.Cutdown.TheVariants.{Refused}
+use Rattle.cutdown_card.specs.Cutdown.{lent_for, cut_by, cut_into, answered_by, CutTyped}
 use Rattle.cutdown_card.specs.Kept.{copied_as, into_by, Into}
 
 -- ---- what an answer of replay says of its outcome

@@ -8,13 +8,12 @@ use native.Mathlib.Omega.{arith}
 use lib.ListN.{length, take, drop, length-append, length-replicate}
 use lib.Seq.{take_at}
 use Rattle.slices.specs.Bytes.{Bytes, zeros}
-use Rattle.slices.specs.Put.{put}
 use Rattle.frame.specs.Block.{blocks}
 use Rattle.recordlog.specs.Read.{resume}
 use Rattle.recordlog.specs.Claims.{Each}
 use Rattle.record.specs.Record.{Record, encode}
 use Rattle.record.proofs.Codec.{decodes_back}
-use Rattle.queues.specs.Queues.{Queue, in_order}
+use Rattle.queues.specs.Queues.{Queue}
 use Rattle.queues.proofs.Both.{never}
 use Rattle.calls.specs.Reading.{readings, lost_in}
 use Rattle.calls.specs.Lost.{lost_bytes}
@@ -25,13 +24,13 @@ use Rattle.calls.proofs.AnyLog.{replayed_arranged}
 use Rattle.calls.proofs.Answers.{Formed}
 use Rattle.lost_bytes.specs.Claims.{Decodes}
 use Rattle.lost_bytes.proofs.Hit.{records_lose_nothing}
-use Rattle.copy_records.specs.Copy.{CopyLent, copy_records, copy_encoded, copy_refusal, copied, copy_of}
+use Rattle.copy_records.specs.Copy.{CopyLent, copy_records, copy_encoded, copy_refusal, copied}
 use Rattle.copy_records.specs.Typed.{QueuesTyped}
 use Rattle.copy_records.proofs.Again.{arranged_ordered}
 use Rattle.copy_records.proofs.Formed.{Shorter, shorter_none}
 use Rattle.copy_records.proofs.Left.{copy_passed, number, encoded, rest, rest_short, room, target_left, formed, states_copy_replays}
 use Rattle.copy_records.proofs.NoMarks.{states_copy_lists_none}
-use Rattle.listing.specs.Listing.{shift_lines, listing, refusal}
+use Rattle.listing.specs.Listing.{shift_lines, listing}
 use Rattle.readout_text.specs.Card.{text_by, text_for, text_in, readout_scratch, readout_room, sized_text, not_sized, card_text}
 use Rattle.readout_text.proofs.Sizes.{just_sized}
 use Rattle.cutdown_card.specs.declared.Cutdown.{Cutdown}

@@ -9,7 +9,6 @@ use lib.Dec.{ltb}
 use lib.ListN.{length, take, drop, take-append-drop, drop_of_length-le, length-replicate}
 use lib.Seq.{length-take-le}
 use borrow.Author.Tests.{lt-ltb, le-ltb, ltb-false}
-use Rattle.slices.specs.Bytes.{zeros}
 use Rattle.slices.specs.Put.{put}
 use Rattle.frame.specs.Block.{blocks}
 use Rattle.recordlog.specs.Laid.{laid}
@@ -19,8 +18,7 @@ use Rattle.queues.proofs.Both.{never}
 use Rattle.calls.specs.Refusals.{refuse_if, first_refusal, log_refused}
 use Rattle.calls.specs.Replay.{Outcome, refused, left, replay_of}
 use Rattle.calls.proofs.Chain.{or_left, or_right}
-use Rattle.contracts.specs.Promises.{replay_lent}
-use Rattle.copy_records.specs.Copy.{CopyLent, copy_encoded, copy_end, any_longer, copy_too_long, copy_refusals, copy_refusal, copied, copied_by, copy_of, CopyResult}
+use Rattle.copy_records.specs.Copy.{copy_encoded, copy_end, any_longer, copy_too_long, copy_refusals, copy_refusal, copied, copied_by, copy_of, CopyResult}
 use Rattle.copy_records.proofs.Left.{copy_done_lem, copy_place}
 use Rattle.abi_entries.specs.Packed.{room_in, unpacked}
 use Rattle.abi_entries.proofs.Laws.{length-unpacked}
@@ -32,7 +30,7 @@ use Rattle.abi_call.specs.OnBytes.{memory_bytes}
 use Rattle.abi_tables.specs.Tables.{memory_in}
 use Rattle.readout_text.specs.Card.{readout_scratch, readout_room, not_sized}
 use Rattle.cutdown_card.specs.declared.Cutdown.{Cutdown}
-use Rattle.cutdown_card.specs.declared.Cutdown.TheVariants.{Written, Refused, NoRoom}
+use Rattle.cutdown_card.specs.declared.Cutdown.TheVariants.{Refused, NoRoom}
 use Rattle.cutdown_card.specs.Cutdown.{Cut, cut_refused, cut_to, lent_for, cut_by, cut_into, blank_card, cut_down, fresh_card, short_for, answered_by, cut_answer, written_by, cut_left, CutTyped, CutKept}
 use Rattle.cutdown_card.specs.Kept.{into_by, Into, CutIntoKept, CutSizedKept}
 use Rattle.cutdown_card.specs.Claims.{CutdownHasRoom}

@@ -1,4 +1,6 @@
 // A card cut down to what it holds: replay with `readout`'s memory, and a copy of the queues into a card of as many blocks.
+#![tactic(auto)]
+
 mod card;
 mod parts;
 

@@ -1,6 +1,6 @@
 -- How long a line gets.
 -- Assumes nothing.
-use mathlib.Core.Path.{◌≡◌, refl, sym, ap, subst, ◌∙◌}
+use mathlib.Core.Path.{◌≡◌, refl, sym, ap, subst}
 use mathlib.Core.Bool.{Bool, true, false, cond}
 use mathlib.Core.Logic.{◌⊎◌, inl, inr}
 use mathlib.Core.List.{List, [], ◌∷◌, ◌++◌}
@@ -12,7 +12,7 @@ use borrow.Author.Tests.{ltb-true, ltb-false, ne_eqb}
 use Rattle.frame.specs.Block.{padding, space}
 use Rattle.frame.proofs.Tests.{le_or_lt}
 use Rattle.frame.proofs.Step.{padding_small}
-use Rattle.recordlog.specs.Write.{split_from, frames_at, num_frame_bytes, num_padding_bytes}
+use Rattle.recordlog.specs.Write.{split_from, frames_at, num_frame_bytes}
 use Rattle.recordlog.proofs.Frames.{space_is, space-start}
 use Rattle.recordlog.proofs.Counts.{frames_last, frames_more, padding_first}
 use Rattle.record.specs.Record.{Record, touch, truncate, delete, encode}
@@ -25,7 +25,7 @@ use Rattle.calls.specs.State.{State, Call, create_call, delete_call, truncate_ca
 use Rattle.calls.specs.Payloads.{items_at, gives_empty, first_position}
 use Rattle.calls.specs.Named.{evicted_from}
 use Rattle.calls.specs.Refusals.{Refusal, refuse_if, first_refusal, input_refusals, write_refusals, create_refusals, delete_refusals, truncate_refusals, taking_refusals, append_refusals, mark_refusals, refusals_of, refusal_of, next_named, append_record}
-use Rattle.calls.specs.Calls.{frames_for, wrote, create_done, delete_done, truncate_done, empty_answer, append_taking, append_done, done_of, returned_by, call_of}
+use Rattle.calls.specs.Calls.{wrote, create_done, delete_done, truncate_done, empty_answer, append_taking, append_done, done_of, returned_by, call_of}
 use Rattle.calls.proofs.Passed.{AppendPassed, append-passed}
 use Rattle.calls.proofs.Steps.{done_zero}
 use Rattle.listing.specs.Digits.{digit, decimal}

@@ -10,7 +10,7 @@ use Rattle.calls.specs.Machine.{Fed}
 use Rattle.listing.specs.Listing.{refusal}
 use Rattle.drive_commands.specs.Commands.{Parsed, none_left, bad, command, command_at}
 use Rattle.drive_calls.specs.Driven.{Driven, line_of, fed, also_line, driven_on, driven_in, driven_from, joined}
-use Rattle.drive_calls.specs.Internal.{driven_rest, lines_from, state_from, TextTurn}
+use Rattle.drive_calls.specs.Internal.{lines_from, state_from, TextTurn}
 use Rattle.drive_calls.proofs.Turns.{drive_turn}
 
 -- what is left of a run but for its history

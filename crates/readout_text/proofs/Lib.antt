@@ -1,7 +1,5 @@
 pub mod OwnTable
 pub mod Between
-pub mod Typed
-pub mod CallRules
 pub mod Sizes
 pub mod Short
 pub mod Example

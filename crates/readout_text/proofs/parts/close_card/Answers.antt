@@ -12,8 +12,7 @@ use Rattle.listing.specs.Writing.{written, listed}
 use Rattle.listing.specs.Listing.{refusal}
 use Rattle.readout_text.specs.Kept.{closed_answer, closed_text}
 use borrow.Author.Rules.{rules}
-use Rattle.readout_text.proofs.parts.close_card.Statement.{statement}
-use Rattle.readout_text.proofs.parts.close_card.Tie as tie
+use Rattle.readout_text.proofs.parts.close_card.Goals as goal
 
 refused_over : (a : ReplayAnswer) (k : ℕ) (x r : Listed) (s t u : List ℕ) → a ≡ replay_refused k → t ≡ zeros (length s)
     → (r ≡ listed (length t) (length (refusal k))) × (u ≡ written t 0 (refusal k)) → (r ≡ closed_answer a x (length s)) × (u ≡ closed_text a s)
@@ -24,38 +23,10 @@ refused_over a k x r s t u e clear w =
       w.1 ∙ ap (λ (o : List ℕ). written o 0 (refusal k)) clear ∙ sym (ap (λ (b : ReplayAnswer). closed_text b s) e),
     )
 
-enum-known-answer : tie.Need-enum-known-answer
-enum-known-answer c = search rules
-
-enum_told : tie.Need-enum-told
-enum_told c = search rules
-
-returns : tie.Need-returns
+pub returns-in_default : goal.returns-in_default
 unfolding closed_answer closed_text
-returns c = search rules
+returns-in_default c = search rules
 
-clear-requires : tie.Need-clear-requires
-clear-requires c κs = search rules
-
-refused-requires : tie.Need-refused-requires
-refused-requires c κs = search rules
-
-same_length : tie.Need-same-length
-same_length c = search rules
-
-returns-2 : tie.Need-returns-2
-returns-2 c =
-    let y = c.before.before.before.before.before.before in
-    refused_over _ _ _ _ _ _ _ y.before.before.before.answer.given.1 y.clear.ensures c.before.before.refused.ensures
-
-pub close-card-spec : {M : Type 1} → statement M
-close-card-spec =
-    tie.close
-    (tie.spec
-    enum-known-answer
-    enum_told
-    returns
-    clear-requires
-    refused-requires
-    same_length
-    returns-2)
+pub returns : goal.returns
+returns c =
+    refused_over _ _ _ _ _ _ _ c.in-Refused.is c.clear.ensures c.refused.ensures

@@ -1,0 +1,24 @@
+-- `readout_text::card::list_card` meets its contract: by the size of the input.
+-- Assumes nothing.
+use Rattle.readout_text.proofs.Sizes.{too_short, too_long_lem, just_sized, still_clear, refused_as, sized_as}
+use Rattle.readout_text.proofs.card.list_card.Goals as goal
+
+pub returns-then-input-lt-BLOCK_NUM_BYTES : goal.returns-then-input-lt-BLOCK_NUM_BYTES
+returns-then-input-lt-BLOCK_NUM_BYTES c =
+    let a = c.args in
+    refused_as _ _ a.out.now _ _ _ (too_short a.input.now c.if-input-lt-BLOCK_NUM_BYTES.true) c.clear.ensures c.refused.ensures
+
+pub returns-then-input-gt-MAX_CARD_LEN : goal.returns-then-input-gt-MAX_CARD_LEN
+returns-then-input-gt-MAX_CARD_LEN c =
+    let a = c.args in
+    refused_as _ _ a.out.now _ _ _ (too_long_lem a.input.now c.if-input-gt-MAX_CARD_LEN.true) c.clear.ensures c.refused-then-input-gt-MAX_CARD_LEN.ensures
+
+pub list_sized-requires : goal.list_sized-requires
+list_sized-requires c =
+    let a = c.args in
+    (c.if-input-lt-BLOCK_NUM_BYTES.false, (c.if-input-gt-MAX_CARD_LEN.false, still_clear a.out.now _ c.clear.ensures))
+
+pub returns : goal.returns
+returns c =
+    let a = c.args in
+    sized_as _ _ a.out.now _ _ _ (just_sized a.input.now c.if-input-lt-BLOCK_NUM_BYTES.false c.if-input-gt-MAX_CARD_LEN.false) c.clear.ensures c.list_sized.ensures
