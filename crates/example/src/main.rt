@@ -1,5 +1,7 @@
 // A caller of `multi_record_log`: a log of one zeroed block is written to and asked, opened again as a program would that starts anew, and cut down to what is
 // held. All memory is the caller's: the log, the scratch, and the queue memory.
+#![tactic(auto)]
+
 use multi_record_log::{
     AtPosition, Called, CopyAnswer, Lower, QuestionAnswer, ReplayAnswer, Upper,
 };

@@ -1,5 +1,7 @@
 // The first record of a range, asked on a table of entries: the part of the payload memory that is handed back, in bars, and the answer. The memory has one
 // queue, "a", with three records: "hello" at 0, one of no bytes at 1, and "again!" at 5.
+#![tactic(auto)]
+
 use mem_entries::blank;
 use multi_record_log::entries::range;
 use multi_record_log::{Lower, QuestionAnswer, RecordEntry, Upper};
