@@ -25,10 +25,9 @@ use Rattle.abi_largest.specs.Numbers.{numbers_in, numbers}
 use Rattle.abi_largest.proofs.Numbers.{length-numbers}
 use Rattle.abi_call.specs.OnBytes.{LentBytes, lent_bytes}
 use Rattle.abi_tables.specs.Tables.{lent_in}
-use Rattle.listing.specs.Internal.{Wrote}
 use Rattle.listing.proofs.Writes.{reads}
-use Rattle.readout_text.specs.Card.{readout_room, readout_scratch}
-use Rattle.drive_calls.specs.Driven.{driven, opening, joined}
+use Rattle.readout_text.specs.Card.{readout_room}
+use Rattle.drive_calls.specs.Driven.{driven, opening}
 use Rattle.drive_calls.specs.Internal.{lines_from, state_from}
 use Rattle.drive_text.specs.Internal.{Ran, Drove}
 

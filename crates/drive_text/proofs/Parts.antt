@@ -3,10 +3,10 @@
 use mathlib.Core.Path.{◌≡◌, refl, sym, ap, ap₂, subst, ◌∙◌}
 use mathlib.Core.Bool.{Bool, true, false, cond}
 use mathlib.Core.List.{List, [], ◌∷◌, ◌++◌, append-nil}
-use Prim.Native.Nat.{ℕ, zero, suc, ◌+◌, ◌-◌, ◌^◌, ◌≤◌, ◌<◌}
+use Prim.Native.Nat.{ℕ, suc, ◌+◌, ◌-◌, ◌^◌, ◌≤◌, ◌<◌}
 use native.Mathlib.Omega.{arith}
 use lib.Dec.{ltb, leb}
-use lib.ListN.{length, take, drop, set, replicate, length-append, length-replicate, length-drop, drop_of_length-le}
+use lib.ListN.{length, take, drop, set, length-append, length-replicate, length-drop, drop_of_length-le}
 use lib.Seq.{sets, sets-eq, take_at, length-take-le}
 use borrow.Author.Tests.{ltb-true, ltb-false, leb-true, leb-false, lt-ltb, le-ltb}
 use Rattle.slices.specs.Bytes.{Bytes, zeros}
@@ -14,7 +14,7 @@ use Rattle.frame.proofs.Step.{drop-zeros}
 use Rattle.listing.specs.declared.Listed.{Listed}
 use Rattle.listing.specs.declared.Listed.TheVariants.{Bytes as bytes, NoRoom as no_room}
 use Rattle.listing.specs.Writing.{written, listed}
-use Rattle.listing.specs.Internal.{behind, Wrote, Lists}
+use Rattle.listing.specs.Internal.{behind, Wrote}
 use Rattle.listing.specs.Listing.{refusal}
 use Rattle.listing.proofs.Writes.{by_test, length-written, written_out, written-append, listed-whole, listed_no_room, listed-behind, behind_in}
 use Rattle.readout_text.specs.Card.{card_text}

@@ -1,15 +1,14 @@
 -- One command after another: what stands at a place of the input, its call and its line, and the loop over them.
 -- Assumes nothing.
 use mathlib.Core.Path.{◌≡◌, refl, sym, ap, ap₂, subst, ◌∙◌}
-use mathlib.Core.Bool.{Bool, true, false, cond, ◌&&◌, false≢true}
-use mathlib.Core.List.{List, [], ◌∷◌, ◌++◌, append_assoc, append-nil}
+use mathlib.Core.Bool.{Bool, true, false, cond, false≢true}
+use mathlib.Core.List.{List, [], ◌∷◌, ◌++◌, append_assoc}
 use Prim.Native.Nat.{ℕ, zero, suc, ◌+◌, ◌-◌, ◌≤◌, ◌<◌}
 use native.Mathlib.Omega.{arith}
 use lib.Dec.{ltb, leb}
 use lib.ListN.{length, take, drop, get_or, length-drop, drop_of_length-le}
 use lib.Seq.{drop-cons, drop-drop, take_all}
 use borrow.Author.Tests.{ltb-true, ltb-false, leb-true}
-use Rattle.frame.proofs.Tests.{le_or_lt}
 use Rattle.queues.proofs.Both.{and_left, and_right}
 use Rattle.calls.specs.State.{State, Call, CallAnswer}
 use Rattle.calls.specs.Refusals.{refusal_of}
@@ -24,7 +23,7 @@ use Rattle.abi_tables.specs.Tables.{lent_in, CallOnTables}
 use Rattle.listing.specs.Internal.{Wrote}
 use Rattle.listing.specs.Listing.{refusal}
 use Rattle.listing.proofs.Writes.{on, reads, wrote_none_lem}
-use Rattle.drive_commands.specs.Commands.{none_left, bad, command, width, call_by, is_command, command_at}
+use Rattle.drive_commands.specs.Commands.{bad, command, width, call_by, is_command, command_at}
 use Rattle.drive_commands.specs.Lines.{line_by}
 use Rattle.drive_commands.specs.Internal.{line_for, starts_command}
 use Rattle.drive_commands.proofs.Pieces.{line_is}
@@ -140,33 +139,6 @@ pub record Going (input : List ℕ) (g₀ g : LentBytes) (out₀ out : List ℕ)
   pub lines : text ++ lines_from (state_of (lent_in g)) (drop p input) ≡ lines_from (state_of (lent_in g₀)) input
   pub state : state_from (state_of (lent_in g)) (drop p input) ≡ state_from (state_of (lent_in g₀)) input
   pub inside : p ≤ length input
-
--- the lengths of what is lent stay
-pub record SameSizes (g₀ g : LentBytes) (out₀ out : List ℕ) : Type 0 where
-  pub log : length g.log ≡ length g₀.log
-  pub scratch : length g.scratch ≡ length g₀.scratch
-  pub names : length g.names ≡ length g₀.names
-  pub payloads : length g.payloads ≡ length g₀.payloads
-  pub entries : length g.entries ≡ length g₀.entries
-  pub largest : length g.largest ≡ length g₀.largest
-  pub table : length g.table ≡ length g₀.table
-  pub text : length out ≡ length out₀
-
-pub sizes_none : (g : LentBytes) (out : List ℕ) → SameSizes g g out out
-sizes_none g out = record { log = refl; scratch = refl; names = refl; payloads = refl; entries = refl; largest = refl; table = refl; text = refl }
-
-pub sizes_on : {g₀ g g' : LentBytes} {out₀ out out' : List ℕ} → SameSizes g g' out out' → SameSizes g₀ g out₀ out → SameSizes g₀ g' out₀ out'
-sizes_on v w =
-    record {
-      log = v.log ∙ w.log;
-      scratch = v.scratch ∙ w.scratch;
-      names = v.names ∙ w.names;
-      payloads = v.payloads ∙ w.payloads;
-      entries = v.entries ∙ w.entries;
-      largest = v.largest ∙ w.largest;
-      table = v.table ∙ w.table;
-      text = v.text ∙ w.text;
-    }
 
 pub going_none : (input : List ℕ) (g : LentBytes) (out : List ℕ) → Going input g g out out 0 0
 going_none input g out = record { text = []; wrote = wrote_none_lem out 0; lines = refl; state = refl; inside = omega arith }

@@ -1,7 +1,7 @@
 -- Helper: for proofs; no promise rests on reading it.
 -- What the functions between the input and its text answer and leave.
 -- Assumes nothing.
-use Rattle.std.specs.Prelude.{◌≡◌, cond, List, [], ◌∷◌, ◌++◌, ℕ, ◌+◌, ◌-◌, ◌^◌, ◌≤◌, ◌<◌, ltb, length, take, drop, get_or}
+use Rattle.std.specs.Prelude.{◌≡◌, cond, List, [], ◌∷◌, ◌++◌, ℕ, ◌+◌, ◌-◌, ◌^◌, ◌<◌, ltb, length, take, drop, get_or}
 use Rattle.slices.specs.Bytes.{zeros}
 use Rattle.calls.specs.State.{Call}
 use Rattle.calls.specs.Calls.{call_of}

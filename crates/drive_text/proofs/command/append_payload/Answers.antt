@@ -1,0 +1,9 @@
+-- `drive_text::command::append_payload` meets its contract.
+-- Assumes nothing.
+use Rattle.drive_text.proofs.Asked.{appends}
+use Rattle.drive_commands.specs.Commands.{payload_in}
+use Rattle.drive_text.proofs.command.append_payload.Goals as goal
+
+pub returns : goal.returns
+unfolding payload_in
+returns c = appends c.at_position-position.ensures c.append.ensures
