@@ -1,5 +1,7 @@
 // Cuts the card on standard input down to what it holds, and writes the fresh card to standard output. A card that is refused is told on standard error, as
 // `refused` and the number, and so is a read or a write that fails; then nothing is written, or, where a write fails, perhaps a part.
+#![tactic(auto)]
+
 use card_input::{State, fail, read_card};
 use cutdown_card::Cutdown;
 use listing::Listed;

@@ -1,6 +1,8 @@
 // Drives a day from the commands on standard input: the whole of it is read, a byte more than an input may have at most, and the library's text is
 // written. Where a file is named as the argument, the log that the calls left goes there first. A read or a write that fails is said on standard error,
 // and then nothing is printed, or, where the text itself could not be written, perhaps a part.
+#![tactic(auto)]
+
 use card_input::{State, fail, file_name, name_too_long, read_card};
 use listing::Listed;
 use std::env::FillError;

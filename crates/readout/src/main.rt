@@ -1,5 +1,7 @@
 // Lists the card on standard input: the whole of it is read, a byte more than a card may have at most, and the library's text is written. A read or a write
 // that fails is said on standard error, and where the input could not be read to its end nothing is listed.
+#![tactic(auto)]
+
 use card_input::{State, fail, read_card};
 use listing::Listed;
 use std::io::Write;

@@ -1,5 +1,7 @@
 // Lists the cards that standard input holds, one after the other, an empty line after each. A card is stored as its length and how many of its bytes are
 // stored, three bytes each, the low one first, then these bytes; zeros follow them up to the card's length.
+#![tactic(auto)]
+
 use listing::Listed;
 
 fn list(card: &[u8]) {

@@ -1,6 +1,8 @@
 // Drives the inputs that standard input holds, one after the other: the text of each, then the CRC-32 of the log that it leaves, and an empty line.
 // An input is stored in parts: how many times a part stands there and its length, two bytes each, the low one first, then its bytes; a part that stands
 // there 0 times ends it.
+#![tactic(auto)]
+
 use listing::{Listed, put_bytes};
 
 // How often a part stands there, and its length; whether there is one more on standard input.

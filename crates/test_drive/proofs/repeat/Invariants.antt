@@ -1,0 +1,11 @@
+-- `test_drive::repeat` ends: fewer times are left at each turn; the buffer keeps its length.
+-- Assumes nothing.
+use mathlib.Core.Path.{◌≡◌}
+use lib.ListN.{length}
+use Rattle.test_drive.proofs.repeat.Given as goal
+
+abbrev pub invariant-loop-left : goal.invariant-loop-left
+invariant-loop-left l = length l.input ≡ length l.initial.input
+
+abbrev pub decreases-loop-left : goal.decreases-loop-left
+decreases-loop-left l = l.left
