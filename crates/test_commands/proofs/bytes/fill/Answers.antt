@@ -1,4 +1,4 @@
-use Rattle.std.proofs.Common.{◌-◌, refl, arith, length-set}
+use Rattle.std.proofs.Common.{refl, arith, length-set}
 use Rattle.test_commands.proofs.bytes.fill.Goals as goal
 
 pub loop-i-init : goal.loop-i-init

@@ -1,4 +1,4 @@
-use Rattle.std.proofs.Common.{◌-◌, sym, ◌∙◌}
+use Rattle.std.proofs.Common.{sym, ◌∙◌}
 use Rattle.record.proofs.Walks.{next_less}
 use Rattle.test_commands.proofs.reads.show_items.Goals as goal
 
