@@ -24,6 +24,8 @@
 // A run of bytes from a seed x: for each byte x becomes (1,103,515,245 x + 12,345) mod 2^31, and the byte is x / 65,536 mod 256. An append's payloads are
 // such a run, end to end. The first payload has all bytes and the others none; with `even` n payloads of b bytes have b / n each, and the first b mod n one
 // more. With `sum` the lengths are those of this many bytes, whatever the run has.
+#![tactic(auto)]
+
 mod answers;
 mod appends;
 mod bytes;

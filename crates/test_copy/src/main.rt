@@ -2,6 +2,8 @@
 // are a title of 32, the log's length and how many of its bytes are stored, the lengths of the target and of the scratch, three bytes each, the low one first,
 // and a place in the table of queues, from 1 on, with a byte to put there before the copy. A line has the title, replay's answer and the copy's, and CRC-32 of
 // the target's whole blocks, of what lies after them and of the scratch. The target is full of hex ee before, the scratch of hex 5a.
+#![tactic(auto)]
+
 use multi_record_log::{CopyAnswer, ReplayAnswer};
 
 const STDOUT: i32 = 1;
