@@ -29,6 +29,7 @@ BY_HAND = {
     "mem_entries/store_entry_leaves_it/0": ("≡ set entries.old i e", "≡ entries.old"),
     "mem_sweep/sweep_keeps_none/0": ("SweptAs (sweep_to change queue entries.old payloads.old count)", "SweptAs (sweep_to change queue entries.old payloads.old 0)"),
     "question/range_hands_back_all_payloads/0": ("        result.now }", "        payloads.now }"),
+    "shift_lines/every_line_from_the_start/0": ("at = put_answer(out, at, answer);", "at = put_answer(out, at - at, answer);"),
     "slices/compare_shorter_is_same/0": ("if i < b.len() {", "if i < b.len() - b.len() {"),
     "read_step/truncate_of_a_missing_queue_at_the_last_number/0": ("if MAX_POSITION <= position {", "if MAX_POSITION <= position / 2 {"),
     "replay/read_leaves_the_reader/0": ("        reader.new }", "        reader.old }"),
