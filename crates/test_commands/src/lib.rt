@@ -29,7 +29,7 @@
 mod answers;
 mod appends;
 mod bytes;
-mod calls;
+mod calling;
 mod changes;
 mod kinds;
 mod lines;

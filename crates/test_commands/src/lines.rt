@@ -3,7 +3,7 @@ ghost use Rattle.std.specs.Prelude.{◌<◌, length};
 
 use crate::answers::text;
 use crate::bytes::{named, part};
-use crate::calls::do_call;
+use crate::calling::do_call;
 use crate::changes::{change, keep, place, set_queues, stain, start};
 use crate::kinds::{
     APPEND, CREATE, FILL, KEEP, LOG, MOVE, QUEUES, READS, SET, SOIL, STAIN, START, kind_of,

@@ -1,6 +1,6 @@
 // The call that writes a mark.
 use crate::answers::done;
-use crate::calls::{show_same, sums_of};
+use crate::calling::{show_same, sums_of};
 use crate::kinds::{asks_counts, asks_same};
 use crate::words::number;
 
