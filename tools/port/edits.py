@@ -31,6 +31,7 @@ BY_HAND = {
     "question/range_hands_back_all_payloads/0": ("        result.now }", "        payloads.now }"),
     "shift_lines/every_line_from_the_start/0": ("at = put_answer(out, at, answer);", "at = put_answer(out, at - at, answer);"),
     "slices/compare_shorter_is_same/0": ("if i < b.len() {", "if i < b.len() - b.len() {"),
+    "planes/planes_fit_width_65/0": ("if width > 64 {", "if width - 1 > 64 {"),
     "read_step/truncate_of_a_missing_queue_at_the_last_number/0": ("if MAX_POSITION <= position {", "if MAX_POSITION <= position / 2 {"),
     "readout_text/every_card_is_refused/0": ("if input.len() < Reader::BLOCK_NUM_BYTES {", "if input.len() / 3 < Reader::BLOCK_NUM_BYTES {"),
     "replay/read_leaves_the_reader/0": ("        reader.new }", "        reader.old }"),
