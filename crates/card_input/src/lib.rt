@@ -1,10 +1,12 @@
 // A card read from an open file, or from whatever else gives bytes; the names of files; and the line that says what failed.
 #![tactic(auto)]
 
-ghost use Rattle.std.specs.Prelude.{◌≡◌, IfOk, OnErr, IsUtf8, ◌<◌, ◌≤◌, ◌-◌, take, drop, length};
+ghost use Rattle.std.specs.Prelude.{◌≡◌, IfOk, IfErr, OnErr, IsUtf8, ◌<◌, ◌≤◌, ◌-◌, take, drop, length};
 ghost use Rattle.std.specs.Io.KnownBytes.{Consumes, IsAtEnd};
 ghost use Rattle.io.specs.Counts.{IsPrefixLen};
-ghost use Rattle.card_input.specs.declared.State.TheVariants.{Going, Ended};
+ghost use Rattle.std.specs.IoError.{error_kind};
+ghost use Rattle.std.specs.declared.io.ErrorKind.TheVariants.{Interrupted, InvalidFilename};
+ghost use Rattle.card_input.specs.declared.State.TheVariants.{Going, Ended, Failed};
 
 use std::io::{Error, ErrorKind, Read, Write};
 
@@ -25,7 +27,8 @@ pub struct Reading {
 
 // What a read that failed means: a signal cut it before a byte came, and it is done again, or there is no more to be had.
 fn cut_or_failed(error: Error) -> State
-    ensures { ¬ (result ≡ Ended) }
+    ensures no_end { ¬ (result ≡ Ended) }
+    ensures retried { (e : Error) → result ≡ Failed e → ¬ (error_kind e ≡ Interrupted) }
 {
     if error.kind() == ErrorKind::Interrupted {
         State::Going
@@ -41,6 +44,7 @@ fn read_on<R: Read>(file: &mut R, card: &mut [u8], from: usize) -> Reading
     ensures front { take from card.new ≡ take from card.old }
     ensures consumed { Consumes (R.remaining file.old) (R.remaining file.new) (take (result.«bytes» - from) (drop from card.new)) }
     ensures end { result.state ≡ Ended → result.«bytes» < length card.new → IsAtEnd (R.remaining file.new) }
+    ensures retried { (e : Error) → result.state ≡ Failed e → ¬ (error_kind e ≡ Interrupted) }
 {
     if card.len() < from {
         return Reading {
@@ -70,6 +74,7 @@ pub fn read_card<R: Read>(file: &mut R, card: &mut [u8]) -> Reading
     ensures consumed { Consumes (R.remaining file.old) (R.remaining file.new) (take result.«bytes» card.new) }
     ensures told { ¬ (result.state ≡ Going) }
     ensures end { result.state ≡ Ended → result.«bytes» < length card.new → IsAtEnd (R.remaining file.new) }
+    ensures retried { (e : Error) → result.state ≡ Failed e → ¬ (error_kind e ≡ Interrupted) }
 {
     let mut bytes = 0;
     for _ in 0..u64::MAX {
@@ -96,6 +101,7 @@ pub fn fail<W: Write>(to: &mut W, what: &[u8], error: Error) {
 pub fn file_name(name: &[u8]) -> Result<&str, Error>
     ensures text { IfOk result (λ text. text.now ≡ name.now) }
     ensures refused { OnErr result (¬ (IsUtf8 name.now)) }
+    ensures kind { IfErr result (λ e. error_kind e ≡ InvalidFilename) }
 {
     match str::from_utf8(name) {
         Ok(text) => Ok(text),
@@ -104,6 +110,8 @@ pub fn file_name(name: &[u8]) -> Result<&str, Error>
 }
 
 // Why a name of more bytes than a name may have is not taken.
-pub fn name_too_long() -> Error {
+pub fn name_too_long() -> Error
+    ensures { error_kind result ≡ InvalidFilename }
+{
     Error::new(ErrorKind::InvalidFilename, "File name too long")
 }
