@@ -3,15 +3,14 @@
 #![tactic(auto)]
 
 use card_input::{State, fail, file_name, name_too_long, read_card};
-use listing::Listed;
 use std::env::FillError;
 use std::fs::File;
 use std::io::{Error, Read, Write};
 use std::rt::{Env, Files};
 
 // Writes a text that stands in the buffer; answers whether all of it was written.
-fn show<O: Write, E: Write>(output: &mut O, errors: &mut E, listed: Listed, text: &[u8]) -> bool {
-    let Listed::Bytes(n) = listed else {
+fn show<O: Write, E: Write>(output: &mut O, errors: &mut E, listed: Option<usize>, text: &[u8]) -> bool {
+    let Some(n) = listed else {
         return false;
     };
     if text.len() < n {

@@ -3,7 +3,7 @@
 // there 0 times ends it.
 #![tactic(auto)]
 
-use listing::{Listed, put_bytes};
+use listing::Text;
 
 // How often a part stands there, and its length; whether there is one more on standard input.
 #[derive(Clone, Copy)]
@@ -36,13 +36,11 @@ fn read_head() -> Head {
 
 // A part as often as it stands there. Bytes past the buffer are dropped.
 fn repeat(input: &mut [u8], at: usize, part: &[u8], times: usize) -> usize {
-    let mut p = at;
-    let mut left = times;
-    while 0 < left {
-        p = put_bytes(input, p, part);
-        left -= 1;
+    let mut text = Text { out: input, at };
+    for _ in 0..times {
+        text.put_bytes(part);
     }
-    p
+    text.at
 }
 
 fn read_part(input: &mut [u8], at: usize, part: &mut [u8], head: Head) -> usize {
@@ -101,7 +99,7 @@ fn crc(log: &[u8]) -> u32 {
 
 fn show(input: &[u8], log: &mut [u8; 65536]) {
     let mut out = [0u8; 247570];
-    let Listed::Bytes(n) = drive_text::drive(input, log, &mut out) else {
+    let Some(n) = drive_text::drive(input, log, &mut out) else {
         return;
     };
     print(&out[..n], log);
