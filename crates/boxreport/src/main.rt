@@ -9,7 +9,12 @@ use std::io::{Error, Read, Write};
 use std::rt::{Env, Files};
 
 // Writes a text that stands in the buffer; answers whether all of it was written.
-fn show<O: Write, E: Write>(output: &mut O, errors: &mut E, listed: Option<usize>, text: &[u8]) -> bool {
+fn show<O: Write, E: Write>(
+    output: &mut O,
+    errors: &mut E,
+    listed: Option<usize>,
+    text: &[u8],
+) -> bool {
     let Some(n) = listed else {
         return false;
     };

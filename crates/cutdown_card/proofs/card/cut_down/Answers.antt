@@ -10,8 +10,8 @@ pub returns-then-card-lt-BLOCK_NUM_BYTES : goal.returns-then-card-lt-BLOCK_NUM_B
 returns-then-card-lt-BLOCK_NUM_BYTES c =
     let a = c.args in
     elim c.then-card-lt-BLOCK_NUM_BYTES.branch [
-      then-card-lt-BLOCK_NUM_BYTES-via-then-card-lt-BLOCK_NUM_BYTES w ↦ too_short a.card.now a.out.now w.if-card-lt-BLOCK_NUM_BYTES.true
-    | then-card-lt-BLOCK_NUM_BYTES-via-else-card-lt-BLOCK_NUM_BYTES+then-card-gt-MAX_CARD_LEN w ↦ too_long_lem a.card.now a.out.now w.if-card-gt-MAX_CARD_LEN.true
+      | then-card-lt-BLOCK_NUM_BYTES-via-then-card-lt-BLOCK_NUM_BYTES w ↦ too_short a.card.now a.out.now w.if-card-lt-BLOCK_NUM_BYTES.true
+      | then-card-lt-BLOCK_NUM_BYTES-via-else-card-lt-BLOCK_NUM_BYTES+then-card-gt-MAX_CARD_LEN w ↦ too_long_lem a.card.now a.out.now w.if-card-gt-MAX_CARD_LEN.true
     ]
 
 pub returns-then-out-len : goal.returns-then-out-len
