@@ -7,7 +7,7 @@ use Prim.Native.Nat.{ℕ, zero, suc, ◌≤◌, ◌<◌}
 use native.Mathlib.Omega.{arith}
 use lib.ListN.{length}
 use Rattle.frame.specs.declared.Reader.{Reader}
-use Rattle.frame.specs.declared.FrameAnswer.TheVariants.{NotAvailable as not_available}
+use Rattle.frame.specs.Reader.{not_available}
 use Rattle.frame.specs.Reader.{read_frame, ahead}
 use Rattle.frame.specs.Internal.{Arranged}
 use Rattle.frame.proofs.Measure.{onward, ahead_falls}

@@ -9,10 +9,10 @@ use lib.ListN.{length, get_or, drop, get_or-eq_default}
 use lib.Seq.{get_or-drop}
 use borrow.Author.Tests.{lt-leb}
 use Rattle.frame.specs.declared.Reader.{Reader}
-use Rattle.frame.specs.declared.TypeByte.{TypeByte}
+use Rattle.std.specs.Prelude.{Option}
 use Rattle.frame.specs.declared.Corruption.{Corruption}
-use Rattle.frame.specs.declared.FrameAnswer.{FrameAnswer}
-use Rattle.frame.specs.declared.FrameAnswer.TheVariants.{Corrupt as corrupt}
+use Rattle.frame.specs.Reader.{FrameAnswer}
+use Rattle.frame.specs.Reader.{corrupt}
 use Rattle.frame.specs.declared.FrameRead.{FrameRead}
 use Rattle.frame.specs.Frame.{type_of, header_of}
 use Rattle.frame.specs.Reader.{must_move, read_frame}
@@ -42,15 +42,15 @@ kind_there log at = sym (get_or-drop at log 6 0)
 pub kind_past : (log : List ℕ) (at : ℕ) → 7 ≤ length log → length log - 7 < at → 0 ≡ (header_of (drop at log)).kind
 kind_past log at h l = sym (get_or-eq_default log 0 {n = at + 6} (omega arith)) ∙ kind_there log at
 
-pub said_there : (log : List ℕ) (r : Reader) (p b : ℕ) (k : TypeByte) → p ≡ header_place r → b ≡ (header_of (drop p log)).kind → k ≡ type_of b → k ≡ type_said log r
+pub said_there : (log : List ℕ) (r : Reader) (p b : ℕ) (k : Option FrameType) → p ≡ header_place r → b ≡ (header_of (drop p log)).kind → k ≡ type_of b → k ≡ type_said log r
 unfolding type_said
 said_there log r p b k ep eb ek = ek ∙ ap type_of (eb ∙ ap (λ (n : ℕ). (header_of (drop n log)).kind) ep)
 
-pub corrupt_is : (k : TypeByte) (s : Seen) (c d : Corruption) → s ≡ seen_as k (corrupt d) → c ≡ d → s ≡ seen_as k (corrupt c)
+pub corrupt_is : (k : Option FrameType) (s : Seen) (c d : Corruption) → s ≡ seen_as k (corrupt d) → c ≡ d → s ≡ seen_as k (corrupt c)
 corrupt_is k s c d e f = e ∙ ap (λ (x : Corruption). seen_as k (corrupt x)) (sym f)
 
 -- the frame seen
-pub corrupt_seen : (k l : TypeByte) (s : Seen) (c : Corruption) (a : FrameAnswer) → k ≡ l → s ≡ seen_as k (corrupt c) → a ≡ corrupt c → s ≡ seen_as l a
+pub corrupt_seen : (k l : Option FrameType) (s : Seen) (c : Corruption) (a : FrameAnswer) → k ≡ l → s ≡ seen_as k (corrupt c) → a ≡ corrupt c → s ≡ seen_as l a
 corrupt_seen k l s c a ek es ea = es ∙ ap₂ seen_as ek (sym ea)
 
 pub seen_is : (log : List ℕ) (r : Reader) (x : FrameRead) (s : Seen) → x ≡ read_frame log r → s ≡ seen_as (type_said log r) x.answer

@@ -11,10 +11,10 @@ use Rattle.crc32.specs.Crc.{crc32}
 use Rattle.frame.specs.declared.Reader.{Reader}
 use Rattle.frame.specs.declared.FrameRead.{FrameRead}
 use Rattle.frame.specs.declared.FrameType.{FrameType}
-use Rattle.frame.specs.declared.TypeByte.{TypeByte}
-use Rattle.frame.specs.declared.TypeByte.TheVariants.{Known as known, Unknown as unknown}
+use Rattle.std.specs.Prelude.{Option}
+use Rattle.std.specs.Prelude.{Some as known, None as unknown}
 use Rattle.frame.specs.declared.Corruption.TheVariants.{UnknownType as unknown_type}
-use Rattle.frame.specs.declared.FrameAnswer.TheVariants.{Sound as sound, Corrupt as corrupt}
+use Rattle.frame.specs.Reader.{sound, corrupt}
 use Rattle.frame.specs.Frame.{type_of, all_zero, header_of, content_of}
 use Rattle.frame.specs.Block.{blocks}
 use Rattle.frame.specs.Reader.{place, judge, look, read_at, must_move, moved, read_frame}
@@ -23,12 +23,12 @@ use Rattle.report_frames.specs.Seen.{header_place_when, header_place, type_said,
 use Rattle.report_frames.specs.Tally.{data_in}
 
 -- x is read by a reader at place q, with its header at place p, whose type byte says k
-pub record Stands (q p : ℕ) (k : TypeByte) (x : FrameRead) : Type 0 where
+pub record Stands (q p : ℕ) (k : Option FrameType) (x : FrameRead) : Type 0 where
   pub there : (t : FrameType) (s n : ℕ) → x.answer ≡ sound t s n → (s ≡ p + 7) × (k ≡ known t)
   pub typed : seen_as k x.answer ≡ unreadable → x.answer ≡ corrupt unknown_type
   pub moves : is_end (seen_as k x.answer) ≡ false → q + data_in (seen_as k x.answer) ≤ place x.reader
 
-judged : (q : ℕ) (z : Bool) (k : TypeByte) (f e : Bool) (b c n : ℕ) → q ≤ b * 32768 + c → Stands q (b * 32768 + c) k (judge z k f e b c n)
+judged : (q : ℕ) (z : Bool) (k : Option FrameType) (f e : Bool) (b c n : ℕ) → q ≤ b * 32768 + c → Stands q (b * 32768 + c) k (judge z k f e b c n)
 unfolding judge seen_as wrong_as is_end data_in
 judged q true k f e b c n h = record { there = λ t s m g. (cc, cc); typed = λ g. cc; moves = λ g. absurd (false≢true (sym g)) }
 judged q false unknown f e b c n h = record { there = λ t s m g. (cc, cc); typed = λ g. refl; moves = λ g. omega arith }

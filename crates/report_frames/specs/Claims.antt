@@ -5,8 +5,8 @@ use Rattle.std.specs.Prelude.{◌≡◌, Bool, List, [], ◌∷◌, ℕ, ◌+◌
 use Rattle.frame.specs.declared.Reader.{Reader}
 use Rattle.frame.specs.declared.FrameType.{FrameType}
 use Rattle.frame.specs.declared.FrameType.TheVariants.{Full as full, First as first, Middle as middle, Last as last}
-use Rattle.frame.specs.declared.TypeByte.TheVariants.{Known as known}
-use Rattle.frame.specs.declared.FrameAnswer.TheVariants.{Sound as sound, Corrupt as corrupt}
+use Rattle.std.specs.Prelude.{Some as known}
+use Rattle.frame.specs.Reader.{sound, corrupt}
 use Rattle.frame.specs.declared.Corruption.TheVariants.{UnknownType as unknown_type}
 use Rattle.frame.specs.Block.{blocks}
 use Rattle.frame.specs.Reader.{fresh, read_frame, ahead}

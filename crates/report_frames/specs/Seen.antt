@@ -3,12 +3,14 @@
 -- scratch is in play.
 -- Assumes nothing.
 use Rattle.std.specs.Prelude.{Bool, true, false, cond, List, [], ◌∷◌, ℕ, zero, suc, ◌*◌, drop}
+use Rattle.std.specs.Prelude.{Ok, Err}
+use Rattle.frame.specs.declared.ReadFrameError.TheVariants.{Corruption as bad_frame, NotAvailable as no_frame}
 use Rattle.frame.specs.declared.Reader.{Reader}
-use Rattle.frame.specs.declared.TypeByte.{TypeByte}
-use Rattle.frame.specs.declared.TypeByte.TheVariants.{Known as known, Unknown as unknown}
+use Rattle.std.specs.Prelude.{Option}
+use Rattle.std.specs.Prelude.{Some as known, None as unknown}
 use Rattle.frame.specs.declared.Corruption.TheVariants.{WrongChecksum as wrong_checksum, UnknownType as unknown_type, PastBlock as past_block}
-use Rattle.frame.specs.declared.FrameAnswer.{FrameAnswer}
-use Rattle.frame.specs.declared.FrameAnswer.TheVariants.{Sound as sound, Corrupt as corrupt, NotAvailable as not_available}
+use Rattle.frame.specs.Reader.{FrameAnswer}
+use Rattle.frame.specs.Reader.{sound, corrupt, not_available}
 use Rattle.frame.specs.Frame.{type_of, header_of}
 use Rattle.frame.specs.Reader.{fresh, place, must_move, read_frame, ahead}
 use Rattle.report_frames.specs.declared.Seen.{Seen}
@@ -23,22 +25,22 @@ unfoldable pub header_place : Reader → ℕ
 header_place r = header_place_when (must_move r) r
 
 -- what the type byte of that header says
-unfoldable pub type_said : List ℕ → Reader → TypeByte
+unfoldable pub type_said : List ℕ → Reader → Option FrameType
 type_said log r = type_of (header_of (drop (header_place r) log)).kind
 
 -- a frame with a wrong checksum has the type that its header says; it always says one (UnreadableOnly)
-unfoldable pub wrong_as : TypeByte → Seen
+unfoldable pub wrong_as : Option FrameType → Seen
 wrong_as (known t) = wrong t
 wrong_as unknown = unreadable
 
 -- "four frame types by two outcomes, checksum right and wrong, the unreadable headers, the over-long frames": an unreadable header is one of unknown type, an
 -- over-long frame one whose length passes the block
-unfoldable pub seen_as : TypeByte → FrameAnswer → Seen
-seen_as said (sound t s n) = right t n
-seen_as said (corrupt wrong_checksum) = wrong_as said
-seen_as said (corrupt unknown_type) = unreadable
-seen_as said (corrupt past_block) = over_long
-seen_as said not_available = end_of_log
+unfoldable pub seen_as : Option FrameType → FrameAnswer → Seen
+seen_as said (Ok f) = right f.kind f.len
+seen_as said (Err (bad_frame wrong_checksum)) = wrong_as said
+seen_as said (Err (bad_frame unknown_type)) = unreadable
+seen_as said (Err (bad_frame past_block)) = over_long
+seen_as said (Err no_frame) = end_of_log
 
 -- what the next frame from a reader on is
 unfoldable pub seen : List ℕ → Reader → Seen

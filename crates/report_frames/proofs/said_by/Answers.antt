@@ -3,7 +3,7 @@
 use mathlib.Core.Path.{◌≡◌, sym, ap}
 use Prim.Native.Nat.{ℕ}
 use borrow.Author.Tests.{ne_eqb}
-use Rattle.frame.specs.declared.TypeByte.TheVariants.{Unknown as unknown}
+use Rattle.std.specs.Prelude.{None as unknown}
 use Rattle.frame.specs.Frame.{type_when, type_of}
 use Rattle.report_frames.proofs.said_by.Goals as goal
 
