@@ -13,8 +13,7 @@ use Rattle.crc32.specs.Crc.{crc32}
 use Rattle.std.specs.Prelude.{Ok, Err}
 use Rattle.frame.specs.declared.ReadFrameError.TheVariants.{Corruption as bad_frame, NotAvailable as no_frame}
 use Rattle.frame.specs.declared.Reader.{Reader}
-use Rattle.std.specs.Prelude.{Option}
-use Rattle.std.specs.Prelude.{Some as known, None as unknown}
+use Rattle.std.specs.Prelude.{Option, Some as known, None as unknown}
 use Rattle.frame.specs.declared.FrameType.{FrameType}
 use Rattle.frame.specs.Reader.{FrameAnswer}
 use Rattle.frame.specs.Reader.{sound, corrupt, not_available}

@@ -18,8 +18,7 @@ use Rattle.frame.specs.Block.{padding, blocks}
 use Rattle.frame.specs.declared.Reader.{Reader}
 use Rattle.frame.specs.declared.FrameType.{FrameType}
 use Rattle.frame.specs.declared.FrameRead.{FrameRead}
-use Rattle.std.specs.Prelude.{Option}
-use Rattle.std.specs.Prelude.{None as unknown}
+use Rattle.std.specs.Prelude.{Option, None as unknown}
 use Rattle.frame.specs.Reader.{corrupt}
 use Rattle.frame.specs.declared.Corruption.TheVariants.{WrongChecksum as wrong_checksum, UnknownType as unknown_type}
 use Rattle.frame.specs.Reader.{place, judge, look, read_frame}

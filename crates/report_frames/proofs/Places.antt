@@ -8,6 +8,7 @@ use native.Mathlib.Omega.{arith}
 use lib.ListN.{length, get_or, drop, get_or-eq_default}
 use lib.Seq.{get_or-drop}
 use borrow.Author.Tests.{lt-leb}
+use Rattle.frame.specs.declared.FrameType.{FrameType}
 use Rattle.frame.specs.declared.Reader.{Reader}
 use Rattle.std.specs.Prelude.{Option}
 use Rattle.frame.specs.declared.Corruption.{Corruption}

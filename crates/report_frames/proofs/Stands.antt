@@ -11,8 +11,7 @@ use Rattle.crc32.specs.Crc.{crc32}
 use Rattle.frame.specs.declared.Reader.{Reader}
 use Rattle.frame.specs.declared.FrameRead.{FrameRead}
 use Rattle.frame.specs.declared.FrameType.{FrameType}
-use Rattle.std.specs.Prelude.{Option}
-use Rattle.std.specs.Prelude.{Some as known, None as unknown}
+use Rattle.std.specs.Prelude.{Option, Some as known, None as unknown}
 use Rattle.frame.specs.declared.Corruption.TheVariants.{UnknownType as unknown_type}
 use Rattle.frame.specs.Reader.{sound, corrupt}
 use Rattle.frame.specs.Frame.{type_of, all_zero, header_of, content_of}

@@ -4,10 +4,10 @@
 -- Assumes nothing.
 use Rattle.std.specs.Prelude.{Bool, true, false, cond, List, [], ◌∷◌, ℕ, zero, suc, ◌*◌, drop}
 use Rattle.std.specs.Prelude.{Ok, Err}
+use Rattle.frame.specs.declared.FrameType.{FrameType}
 use Rattle.frame.specs.declared.ReadFrameError.TheVariants.{Corruption as bad_frame, NotAvailable as no_frame}
 use Rattle.frame.specs.declared.Reader.{Reader}
-use Rattle.std.specs.Prelude.{Option}
-use Rattle.std.specs.Prelude.{Some as known, None as unknown}
+use Rattle.std.specs.Prelude.{Option, Some as known, None as unknown}
 use Rattle.frame.specs.declared.Corruption.TheVariants.{WrongChecksum as wrong_checksum, UnknownType as unknown_type, PastBlock as past_block}
 use Rattle.frame.specs.Reader.{FrameAnswer}
 use Rattle.frame.specs.Reader.{sound, corrupt, not_available}
