@@ -19,9 +19,9 @@ pub record Stored {A : Type 0} (s₀ : List A) (p : ℕ) (xs s : List A) (i : �
 pub start : {A : Type 0} (s : List A) (p : ℕ) (xs : List A) → Stored s p xs s 0
 start s p xs = record { small = omega arith; long = refl; is = sym (put_none s p) }
 
-pub turn : {A : Type 0} {d : A} (s₀ : List A) (p : ℕ) (xs s : List A) (i : ℕ) (x : A) → p + length xs ≤ length s₀ → i < length xs → x ≡ get_or xs i d → Stored s₀ p xs s i
+pub turn : {A : Type 0} (s₀ : List A) (p : ℕ) (xs s : List A) (i : ℕ) (x d : A) → p + length xs ≤ length s₀ → i < length xs → x ≡ get_or xs i d → Stored s₀ p xs s i
     → Stored s₀ p xs (set s (p + i) x) (i + 1)
-turn {A = A} {d = d} s₀ p xs s i x h l e w =
+turn {A = A} s₀ p xs s i x d h l e w =
     let n : length (take i xs) ≡ i = omega (arith, length-take i xs) in
     record {
       small = omega arith;
