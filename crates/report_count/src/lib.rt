@@ -151,6 +151,7 @@ pub fn count_log(crc: &[u32], log: &[u8], numbers: &[u64]) -> [u64; 12]
         let Some(seen) = sight.seen else {
             break;
         };
+        // Kept: an array that a call answers goes through a name of its own, since the proof covers no answer laid straight into a variable that is changed.
         let next = count_seen(table, seen);
         table = next;
         others = count_others(others, seen);
