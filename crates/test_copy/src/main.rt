@@ -64,7 +64,10 @@ impl Queues {
     // One number that stands for the whole memory.
     fn sum(&self) -> u32 {
         let sum = update(update(0xffff_ffff, &self.names), &self.payloads);
-        update(update(update(sum, &self.entries), &self.largest), &self.table)
+        update(
+            update(update(sum, &self.entries), &self.largest),
+            &self.table,
+        )
     }
 }
 
@@ -81,7 +84,12 @@ fn next_length(input: &mut impl Read) -> io::Result<usize> {
 }
 
 // The log: the bytes that are stored, and zeros after them.
-fn next_log(alloc: Global, input: &mut impl Read, len: usize, stored: usize) -> io::Result<Vec<u8>> {
+fn next_log(
+    alloc: Global,
+    input: &mut impl Read,
+    len: usize,
+    stored: usize,
+) -> io::Result<Vec<u8>> {
     let mut log = vec![in alloc; 0u8; len]?;
     if let Some(bytes) = log.get_mut(..stored) {
         input.read_exact(bytes)?;
@@ -129,11 +137,18 @@ fn copy(rt: &(impl Print + AllocGlobal), queues: &Queues, case: Case) -> io::Res
     let mut target = vec![in rt.alloc(); 0xeeu8; case.target_len]?;
     let mut scratch = vec![in rt.alloc(); 0x5au8; case.scratch_len]?;
     let before = queues.sum();
-    tell_copy(rt, queues.copy(target.as_mut_slice(), scratch.as_mut_slice()))?;
+    tell_copy(
+        rt,
+        queues.copy(target.as_mut_slice(), scratch.as_mut_slice()),
+    )?;
     let (blocks, tail) = target.split_at(target.len() / 32768 * 32768);
     let (blocks, tail, scratch) = (crc(blocks), crc(tail), crc(scratch.as_slice()));
     print!(rt; ", blocks {blocks:08x}, tail {tail:08x}, scratch {scratch:08x}")?;
-    let kept = if before == queues.sum() { "stay" } else { "changed" };
+    let kept = if before == queues.sum() {
+        "stay"
+    } else {
+        "changed"
+    };
     println!(rt; ", queues {kept}")
 }
 

@@ -37,13 +37,7 @@ fn entry(position: u64, length: usize) -> RecordEntry {
 }
 
 // The memory is arranged as docs/LAYOUT.md says, and the range asked for: all of it, and the answer, are locals that are lent.
-fn ask(
-    rt: &impl Print,
-    what: &str,
-    name: &[u8],
-    lower: Lower,
-    upper: Upper,
-) -> io::Result<()> {
+fn ask(rt: &impl Print, what: &str, name: &[u8], lower: Lower, upper: Upper) -> io::Result<()> {
     let table: [u64; 7] = [1, 1, 3, 11, 1, 0, 6];
     let records = [entry(0, 5), entry(1, 0), entry(5, 6), blank()];
     let largest: [u64; 4] = [0, 0, 2, 0];
@@ -69,7 +63,13 @@ fn main(rt: HostRuntime) -> io::Result<()> {
     ask(&rt, "after 0", b"a", Lower::After(0), Upper::Unbounded)?;
     ask(&rt, "from 2", b"a", Lower::From(2), Upper::Unbounded)?;
     ask(&rt, "from 5", b"a", Lower::From(5), Upper::Unbounded)?;
-    ask(&rt, "after 0 through 0", b"a", Lower::After(0), Upper::Through(0))?;
+    ask(
+        &rt,
+        "after 0 through 0",
+        b"a",
+        Lower::After(0),
+        Upper::Through(0),
+    )?;
     ask(&rt, "from 6", b"a", Lower::From(6), Upper::Unbounded)?;
     ask(&rt, "before 0", b"a", Lower::Unbounded, Upper::Before(0))?;
     ask(&rt, "no queue", b"b", Lower::Unbounded, Upper::Unbounded)

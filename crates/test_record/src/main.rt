@@ -139,8 +139,14 @@ fn types() {
     run(b"\x04\x05\0\0\0\0\0\0\0\x01\0a", b"append 5 11 1 end");
     run(b"\x05\x05\0\0\0\0\0\0\0\x01\0a", b"none");
     run(b"\xff\x05\0\0\0\0\0\0\0\x01\0a", b"none");
-    run(b"\x01\xff\xff\xff\xff\xff\xff\xff\xff\x01\0a", b"truncate 18446744073709551615 11 1");
-    run(b"\x02\x01\x02\x03\x04\x05\x06\x07\x08\0\0", b"touch 578437695752307201 11 0");
+    run(
+        b"\x01\xff\xff\xff\xff\xff\xff\xff\xff\x01\0a",
+        b"truncate 18446744073709551615 11 1",
+    );
+    run(
+        b"\x02\x01\x02\x03\x04\x05\x06\x07\x08\0\0",
+        b"touch 578437695752307201 11 0",
+    );
 }
 
 // The empty name; a name length one past the end, with its two bytes turned round, and the greatest;
@@ -152,7 +158,10 @@ fn names() {
     run(b"\x01\x05\0\0\0\0\0\0\0\xff\xffa", b"none");
     run(b"\x01\x05\0\0\0\0\0\0\0\x01\0\x80", b"none");
     run(b"\x01\x05\0\0\0\0\0\0\0\x03\0\xed\xa0\x80", b"none");
-    run(b"\x01\x05\0\0\0\0\0\0\0\x04\0\xf4\x8f\xbf\xbf", b"truncate 5 11 4");
+    run(
+        b"\x01\x05\0\0\0\0\0\0\0\x04\0\xf4\x8f\xbf\xbf",
+        b"truncate 5 11 4",
+    );
     run(b"\x01\x05\0\0\0\0\0\0\0\x01\0abody", b"truncate 5 11 1");
     run(b"\x02\x05\0\0\0\0\0\0\0\x01\0a\xff", b"touch 5 11 1");
     run(b"\x03\x05\0\0\0\0\0\0\0\0\0body", b"delete 5 11 0");
@@ -161,27 +170,69 @@ fn names() {
 // An item with one byte of payload: its length right, one past the end, one before it, and the
 // greatest. Two items, the second without payload; the same with its last byte missing.
 fn items() {
-    run(b"\x04\0\0\0\0\0\0\0\0\0\0\x07\0\0\0\0\0\0\0\x01\0\0\0x", b"append 0 11 0 item 7 23 1 end");
-    run(b"\x04\0\0\0\0\0\0\0\0\0\0\x07\0\0\0\0\0\0\0\x02\0\0\0x", b"none");
-    run(b"\x04\0\0\0\0\0\0\0\0\0\0\x07\0\0\0\0\0\0\0\0\0\0\0x", b"none");
-    run(b"\x04\0\0\0\0\0\0\0\0\0\0\x07\0\0\0\0\0\0\0\xff\xff\xff\xffx", b"none");
-    run(b"\x04\0\0\0\0\0\0\0\0\0\0\x07\0\0\0\0\0\0\0\x03\0\0\0one\xff\xff\xff\xff\xff\xff\xff\xff\0\0\0\0", b"append 0 11 0 item 7 23 3 item 18446744073709551615 38 0 end");
-    run(b"\x04\0\0\0\0\0\0\0\0\0\0\x07\0\0\0\0\0\0\0\x03\0\0\0one\xff\xff\xff\xff\xff\xff\xff\xff\0\0\0", b"none");
+    run(
+        b"\x04\0\0\0\0\0\0\0\0\0\0\x07\0\0\0\0\0\0\0\x01\0\0\0x",
+        b"append 0 11 0 item 7 23 1 end",
+    );
+    run(
+        b"\x04\0\0\0\0\0\0\0\0\0\0\x07\0\0\0\0\0\0\0\x02\0\0\0x",
+        b"none",
+    );
+    run(
+        b"\x04\0\0\0\0\0\0\0\0\0\0\x07\0\0\0\0\0\0\0\0\0\0\0x",
+        b"none",
+    );
+    run(
+        b"\x04\0\0\0\0\0\0\0\0\0\0\x07\0\0\0\0\0\0\0\xff\xff\xff\xffx",
+        b"none",
+    );
+    run(
+        b"\x04\0\0\0\0\0\0\0\0\0\0\x07\0\0\0\0\0\0\0\x03\0\0\0one\xff\xff\xff\xff\xff\xff\xff\xff\0\0\0\0",
+        b"append 0 11 0 item 7 23 3 item 18446744073709551615 38 0 end",
+    );
+    run(
+        b"\x04\0\0\0\0\0\0\0\0\0\0\x07\0\0\0\0\0\0\0\x03\0\0\0one\xff\xff\xff\xff\xff\xff\xff\xff\0\0\0",
+        b"none",
+    );
 }
 
 // Marks: a body of 8 bytes, the numbers 0 and 2^64-1; bodies of 7, 9 and no bytes; a name of one byte with 8 and with 7 bytes
 // after it; types 1 and 6 in the form of a mark.
 fn marks() {
-    run(b"\x05\x07\0\0\0\0\0\0\0\0\0\x01\x02\x03\x04\x05\x06\x07\x08", b"mark 7 11 8");
+    run(
+        b"\x05\x07\0\0\0\0\0\0\0\0\0\x01\x02\x03\x04\x05\x06\x07\x08",
+        b"mark 7 11 8",
+    );
     run(b"\x05\0\0\0\0\0\0\0\0\0\0\0\0\0\0\0\0\0\0", b"mark 0 11 8");
-    run(b"\x05\xff\xff\xff\xff\xff\xff\xff\xff\0\0\xff\xff\xff\xff\xff\xff\xff\xff", b"mark 18446744073709551615 11 8");
-    run(b"\x05\x07\0\0\0\0\0\0\0\0\0\x01\x02\x03\x04\x05\x06\x07", b"none");
-    run(b"\x05\x07\0\0\0\0\0\0\0\0\0\x01\x02\x03\x04\x05\x06\x07\x08\x09", b"none");
+    run(
+        b"\x05\xff\xff\xff\xff\xff\xff\xff\xff\0\0\xff\xff\xff\xff\xff\xff\xff\xff",
+        b"mark 18446744073709551615 11 8",
+    );
+    run(
+        b"\x05\x07\0\0\0\0\0\0\0\0\0\x01\x02\x03\x04\x05\x06\x07",
+        b"none",
+    );
+    run(
+        b"\x05\x07\0\0\0\0\0\0\0\0\0\x01\x02\x03\x04\x05\x06\x07\x08\x09",
+        b"none",
+    );
     run(b"\x05\x07\0\0\0\0\0\0\0\0\0", b"none");
-    run(b"\x05\x07\0\0\0\0\0\0\0\x01\0a\x01\x02\x03\x04\x05\x06\x07\x08", b"none");
-    run(b"\x05\x07\0\0\0\0\0\0\0\x01\0a\x01\x02\x03\x04\x05\x06\x07", b"none");
-    run(b"\x01\x07\0\0\0\0\0\0\0\0\0\x01\x02\x03\x04\x05\x06\x07\x08", b"truncate 7 11 0");
-    run(b"\x06\x07\0\0\0\0\0\0\0\0\0\x01\x02\x03\x04\x05\x06\x07\x08", b"none");
+    run(
+        b"\x05\x07\0\0\0\0\0\0\0\x01\0a\x01\x02\x03\x04\x05\x06\x07\x08",
+        b"none",
+    );
+    run(
+        b"\x05\x07\0\0\0\0\0\0\0\x01\0a\x01\x02\x03\x04\x05\x06\x07",
+        b"none",
+    );
+    run(
+        b"\x01\x07\0\0\0\0\0\0\0\0\0\x01\x02\x03\x04\x05\x06\x07\x08",
+        b"truncate 7 11 0",
+    );
+    run(
+        b"\x06\x07\0\0\0\0\0\0\0\0\0\x01\x02\x03\x04\x05\x06\x07\x08",
+        b"none",
+    );
 }
 
 // A mark with the clock reading in little-endian bytes.
@@ -196,9 +247,18 @@ fn run_mark(s: &mut [u8], should: &[u8]) {
 
 // Into bytes of ee hex: one too few, just enough, and one to spare.
 fn mark_writes() {
-    run_mark(&mut [0xee; 18], b"nothing eeeeeeeeeeeeeeeeeeeeeeeeeeeeeeeeeeee");
-    run_mark(&mut [0xee; 19], b"until 19 05070000000000000000000102000000000000");
-    run_mark(&mut [0xee; 20], b"until 19 05070000000000000000000102000000000000ee");
+    run_mark(
+        &mut [0xee; 18],
+        b"nothing eeeeeeeeeeeeeeeeeeeeeeeeeeeeeeeeeeee",
+    );
+    run_mark(
+        &mut [0xee; 19],
+        b"until 19 05070000000000000000000102000000000000",
+    );
+    run_mark(
+        &mut [0xee; 20],
+        b"until 19 05070000000000000000000102000000000000ee",
+    );
 }
 
 fn run_step(s: &[u8], start: usize, end: usize, should: &[u8]) {
@@ -254,7 +314,10 @@ fn run_write(s: &mut [u8], should: &[u8]) {
 // enough, and one to spare.
 fn writes() {
     run_write(&mut [0xee; 12], b"nothing nothing eeeeeeeeeeeeeeeeeeeeeeee");
-    run_write(&mut [0xee; 13], b"until 13 nothing 04050000000000000002006162");
+    run_write(
+        &mut [0xee; 13],
+        b"until 13 nothing 04050000000000000002006162",
+    );
     run_write(
         &mut [0xee; 27],
         b"until 13 nothing 04050000000000000002006162eeeeeeeeeeeeeeeeeeeeeeeeeeee",
