@@ -3,10 +3,11 @@
 use mathlib.Core.Path.{◌≡◌, sym, ap, ◌∙◌}
 use Prim.Native.Nat.{ℕ}
 use Rattle.contracts.specs.Numbers.{number_of}
-use Rattle.report.specs.declared.MeanAnswer.{MeanAnswer}
-use Rattle.report.specs.declared.MeanAnswer.TheVariants.{Refused as no_mean}
+use Rattle.std.specs.Prelude.{Err}
+use Rattle.report.specs.declared.ReportRefusal.{ReportRefusal}
+use Rattle.report.specs.Feed.{refusal_number, MeanAnswer}
 use Rattle.mrecordlog.specs.Reported.{mean_told, tell_mean}
 
-pub mean_refused : (a : MeanAnswer) (n r : ℕ) → a ≡ no_mean n → r ≡ number_of n → mean_told r 0 0 0 0 ≡ tell_mean a
+pub mean_refused : (a : MeanAnswer) (k : ReportRefusal) {n r : ℕ} → a ≡ Err k → n ≡ refusal_number k → r ≡ number_of n → mean_told r 0 0 0 0 ≡ tell_mean a
 unfolding tell_mean
-mean_refused a n r e f = ap (λ (k : ℕ). mean_told k 0 0 0 0) f ∙ sym (ap tell_mean e)
+mean_refused a k e g f = ap (λ (i : ℕ). mean_told i 0 0 0 0) (f ∙ ap number_of g) ∙ sym (ap tell_mean e)

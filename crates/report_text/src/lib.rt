@@ -12,7 +12,7 @@ ghost use Rattle.report_text.specs.Text.{row_line, table_lines, other_lines, mea
 use calls::Refusal;
 use frame::Reader;
 use listing::{Listed, answer, put_byte, put_bytes, put_number_line, put_numbered, refused};
-use report::MeanAnswer;
+use report::{Mean, ReportRefusal};
 use slices::clear;
 
 // Two blocks.
@@ -54,25 +54,21 @@ fn put_counts(out: &mut [u8], at: usize, numbers: &[u64]) -> usize
     put_others(out, p, numbers)
 }
 
-fn put_parts(out: &mut [u8], at: usize, whole: u64, remainder: u64, count: u64) -> usize
-    ensures { Wrote out.old at (mean_line (MeanAnswer.Mean whole remainder count)) result out.new }
+fn put_parts(out: &mut [u8], at: usize, mean: Mean) -> usize
+    ensures { Wrote out.old at (mean_line (Ok (Some mean))) result out.new }
 {
-    let p = put_numbered(out, at, b"mean ", whole);
-    let p = put_numbered(out, p, b" remainder ", remainder);
-    put_number_line(out, p, b" over ", count)
+    let p = put_numbered(out, at, b"mean ", mean.whole);
+    let p = put_numbered(out, p, b" remainder ", mean.remainder);
+    put_number_line(out, p, b" over ", mean.count)
 }
 
-fn put_mean(out: &mut [u8], at: usize, mean: MeanAnswer) -> usize
+fn put_mean(out: &mut [u8], at: usize, mean: Result<Option<Mean>, ReportRefusal>) -> usize
     ensures { Wrote out.old at (mean_line mean) result out.new }
 {
     match mean {
-        MeanAnswer::Mean {
-            whole,
-            remainder,
-            count,
-        } => put_parts(out, at, whole, remainder, count),
-        MeanAnswer::Nothing => put_bytes(out, at, b"mean none\n"),
-        MeanAnswer::Refused(number) => put_number_line(out, at, b"refused ", number),
+        Ok(Some(parts)) => put_parts(out, at, parts),
+        Ok(None) => put_bytes(out, at, b"mean none\n"),
+        Err(refusal) => put_number_line(out, at, b"refused ", refusal.number()),
     }
 }
 
