@@ -13,8 +13,7 @@ use Rattle.recordlog.specs.Read.{resume}
 use Rattle.queues.specs.Queues.{Queue, Found, missing, held, find}
 use Rattle.queues.specs.Layout.{Memory, meaning, capacities}
 use Rattle.largest.specs.Table.{arranged_with}
-use Rattle.queues.specs.declared.Lower.{Lower}
-use Rattle.queues.specs.declared.Upper.{Upper}
+use Rattle.std.specs.declared.ops.Bound.{Bound}
 use Rattle.calls.specs.State.{State, Call, create_call, delete_call, truncate_call, append_call, mark_call, CallAnswer, Returned}
 use Rattle.calls.specs.Payloads.{first_position, gives_empty}
 use Rattle.calls.specs.Refusals.{Refusal, first_refusal, log_refused, state_not_arranged, next_named, input_refusals, write_refusals, create_refusals, delete_refusals, truncate_refusals, taking_refusals, append_refusals, mark_refusals, place_not_arranged, refusals_of, refusal_of, question_refusals}
@@ -102,7 +101,7 @@ call_refusal l l' k a w = ap (λ (x : CallAnswer). x.refusal) w.answer ∙ refus
 
 -- ---- questions
 
-pub range-refusal : (b : Bool) (qs : List Queue) (n : List ℕ) (lo : Lower) (hi : Upper) → (range_answer b qs n lo hi).refusal ≡ question_refusal b qs n
+pub range-refusal : (b : Bool) (qs : List Queue) (n : List ℕ) (lo : Bound ℕ) (hi : Bound ℕ) → (range_answer b qs n lo hi).refusal ≡ question_refusal b qs n
 unfolding range_answer range_by
 range-refusal b qs n lo hi = go (question_refusal b qs n) (find n qs)
   where

@@ -9,9 +9,8 @@ use Rattle.frame.specs.Block.{blocks, padding}
 use Rattle.recordlog.specs.Write.{Frame}
 use Rattle.recordlog.specs.Hit.{Hit, type_lost}
 use Rattle.record.specs.Record.{Item}
-use Rattle.queues.specs.declared.Lower.{Lower}
-use Rattle.queues.specs.declared.Lower.TheVariants.{After as after_position}
-use Rattle.queues.specs.declared.Upper.{Upper}
+use Rattle.std.specs.declared.ops.Bound.{Bound}
+use Rattle.std.specs.declared.ops.Bound.TheVariants.{Excluded as excluded}
 use Rattle.queues.specs.Queues.{Queue, held, find}
 use Rattle.queues.specs.Ranges.{all_in_range, first_item, first_of}
 use Rattle.queues.specs.Layout.{Memory, meaning, capacities}
@@ -157,7 +156,7 @@ StruckWithin = (h : List Fed) (l : Lent) → Run h l
 -- ---- "asking again with "after" that position gives the next"
 
 -- i is the first of the queue's records in the range, and a answers with the next of them, or with none
-pub record NextGiven (m : Memory) (n : List ℕ) (lo : Lower) (hi : Upper) (i : Item) (a : QuestionAnswer) : Type 0 where
+pub record NextGiven (m : Memory) (n : List ℕ) (lo : Bound ℕ) (hi : Bound ℕ) (i : Item) (a : QuestionAnswer) : Type 0 where
   pub queue : Queue
   pub is_held : find n (meaning m) ≡ held queue
   pub later : List Item
@@ -165,17 +164,17 @@ pub record NextGiven (m : Memory) (n : List ℕ) (lo : Lower) (hi : Upper) (i : 
   pub next : range_numbers m.payloads a ≡ record { refusal = 0; found = first_of later }
 
 abbrev pub AskedAgain : Type 0
-AskedAgain = (m : Memory) (ks n : List ℕ) (lo : Lower) (hi : Upper) (i : Item) (a : QuestionAnswer) → RangeGave m ks n lo hi (first_item i)
-    → RangeKept m ks n (after_position i.position) hi a → NextGiven m n lo hi i a
+AskedAgain = (m : Memory) (ks n : List ℕ) (lo : Bound ℕ) (hi : Bound ℕ) (i : Item) (a : QuestionAnswer) → RangeGave m ks n lo hi (first_item i)
+    → RangeKept m ks n (excluded i.position) hi a → NextGiven m n lo hi i a
 
 -- and so on to the last: all records of the queue in the range, by position
-pub record AllGiven (m : Memory) (n : List ℕ) (lo : Lower) (hi : Upper) (is : List Item) : Type 0 where
+pub record AllGiven (m : Memory) (n : List ℕ) (lo : Bound ℕ) (hi : Bound ℕ) (is : List Item) : Type 0 where
   pub queue : Queue
   pub is_held : find n (meaning m) ≡ held queue
   pub all : is ≡ all_in_range lo hi queue.records
 
 abbrev pub AskedThrough : Type 0
-AskedThrough = (m : Memory) (ks n : List ℕ) (lo : Lower) (hi : Upper) (is : List Item) → Asks m ks n hi lo is → AllGiven m n lo hi is
+AskedThrough = (m : Memory) (ks n : List ℕ) (lo : Bound ℕ) (hi : Bound ℕ) (is : List Item) → Asks m ks n hi lo is → AllGiven m n lo hi is
 
 -- ---- "whole blocks of 32,768 bytes; a shorter tail is never touched"
 

@@ -7,31 +7,32 @@ ghost use Rattle.abi_tables.specs.Tables.{memory_in};
 ghost use Rattle.mrecordlog.specs.Told.{lower_of, upper_of, range_told, tell_range, positions_told, tell_positions, largest_told, tell_largest};
 ghost use Rattle.mrecordlog.specs.Exported.{RangeExported, PositionsExported, LargestExported};
 
+use std::ops::Bound;
 use crate::answers::number_told;
-use multi_record_log::{Lower, QuestionAnswer, Upper};
+use multi_record_log::QuestionAnswer;
 
-fn lower_bound(kind: u64, position: u64) -> Lower
+fn lower_bound(kind: u64, position: u64) -> Bound<u64>
     ensures { result ≡ lower_of kind position }
 {
     if kind == 1 {
-        return Lower::From(position);
+        return Bound::Included(position);
     }
     if kind == 2 {
-        return Lower::After(position);
+        return Bound::Excluded(position);
     }
-    Lower::Unbounded
+    Bound::Unbounded
 }
 
-fn upper_bound(kind: u64, position: u64) -> Upper
+fn upper_bound(kind: u64, position: u64) -> Bound<u64>
     ensures { result ≡ upper_of kind position }
 {
     if kind == 1 {
-        return Upper::Through(position);
+        return Bound::Included(position);
     }
     if kind == 2 {
-        return Upper::Before(position);
+        return Bound::Excluded(position);
     }
-    Upper::Unbounded
+    Bound::Unbounded
 }
 
 fn tell_range(
