@@ -3,9 +3,10 @@
 #![tactic(auto)]
 
 use multi_record_log::{
-    AtPosition, Called, CopyAnswer, Lower, QuestionAnswer, ReplayAnswer, Upper,
+    AtPosition, Called, CopyAnswer, QuestionAnswer, ReplayAnswer,
 };
 use std::io;
+use std::ops::Bound;
 
 // The log, where it is written on, and the scratch.
 #[derive(Drop)]
@@ -145,8 +146,8 @@ impl Queues {
             &self.largest,
             &self.table,
             b"rings",
-            Lower::Unbounded,
-            Upper::Unbounded,
+            Bound::Unbounded,
+            Bound::Unbounded,
         )
     }
 

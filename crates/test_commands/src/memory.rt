@@ -2,8 +2,9 @@
 use crate::answers::sum;
 use crate::line::Line;
 use multi_record_log::{
-    AtPosition, Called, Lower, QuestionAnswer, ReadStep, Reader, ReplayAnswer, Upper,
+    AtPosition, Called, QuestionAnswer, ReadStep, Reader, ReplayAnswer,
 };
+use std::ops::Bound;
 
 // The memory of all cases.
 #[derive(Drop)]
@@ -229,7 +230,7 @@ impl Memory<'_> {
         )
     }
 
-    pub fn range(&self, name: &[u8], lower: Lower, upper: Upper) -> QuestionAnswer {
+    pub fn range(&self, name: &[u8], lower: Bound<u64>, upper: Bound<u64>) -> QuestionAnswer {
         multi_record_log::range(
             self.names,
             self.payloads,

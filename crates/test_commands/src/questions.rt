@@ -3,7 +3,8 @@ use crate::answers::{refused, say, say_bytes, say_record, text};
 use crate::command::Ask;
 use crate::line::Line;
 use crate::memory::Memory;
-use multi_record_log::{Lower, QuestionAnswer, Upper};
+use multi_record_log::QuestionAnswer;
+use std::ops::Bound;
 
 fn say_answer(payloads: &[u8], answer: QuestionAnswer) {
     match answer {
@@ -27,8 +28,8 @@ fn say_answer(payloads: &[u8], answer: QuestionAnswer) {
 
 // The first record of a queue, or that after a position: its position and length.
 fn first(memory: &Memory<'_>, name: &[u8], line: Line<'_>) {
-    let lower = line.number(b"after").map_or(Lower::Unbounded, Lower::After);
-    match memory.range(name, lower, Upper::Unbounded) {
+    let lower = line.number(b"after").map_or(Bound::Unbounded, Bound::Excluded);
+    match memory.range(name, lower, Bound::Unbounded) {
         QuestionAnswer::Record {
             position,
             length,
@@ -46,8 +47,8 @@ fn ranges(memory: &Memory<'_>, name: &[u8], line: Line<'_>) {
     let from = line.number_or_0(b"from");
     let to = line.number_or_0(b"to");
     text(b"range");
-    for lower in [Lower::Unbounded, Lower::From(from), Lower::After(from)] {
-        for upper in [Upper::Unbounded, Upper::Through(to), Upper::Before(to)] {
+    for lower in [Bound::Unbounded, Bound::Included(from), Bound::Excluded(from)] {
+        for upper in [Bound::Unbounded, Bound::Included(to), Bound::Excluded(to)] {
             say_answer(memory.payloads, memory.range(name, lower, upper));
         }
     }
@@ -56,18 +57,18 @@ fn ranges(memory: &Memory<'_>, name: &[u8], line: Line<'_>) {
 
 // All records of a queue, one question after the other.
 fn show_records(memory: &Memory<'_>, name: &[u8]) {
-    let mut lower = Lower::Unbounded;
+    let mut lower = Bound::Unbounded;
     for _ in 0..1025 {
         let QuestionAnswer::Record {
             position,
             start,
             length,
-        } = memory.range(name, lower, Upper::Unbounded)
+        } = memory.range(name, lower, Bound::Unbounded)
         else {
             return;
         };
         say_record(memory.payloads, position, start, length);
-        lower = Lower::After(position);
+        lower = Bound::Excluded(position);
     }
 }
 

@@ -6,20 +6,14 @@ use crate::questions::show_queues;
 use frame::{Corruption, Reader};
 use multi_record_log::ReplayAnswer;
 use read_step::{Lost, ReadAnswer};
-use record::{MultiPlexedRecord, MultiRecord, NextItem};
+use record::{MultiPlexedRecord, MultiRecord};
 
 // The items of an append, item after item.
 fn show_items(s: &[u8], items: MultiRecord) {
     let mut left = items;
-    while let NextItem::Item {
-        position,
-        start,
-        len,
-        rest,
-    } = record::next_item(s, left)
-    {
-        say_record(s, position, start, len);
-        left = rest;
+    while let Ok(Some(item)) = record::next_item(s, left) {
+        say_record(s, item.position, item.start, item.len);
+        left = item.rest;
     }
 }
 
@@ -62,7 +56,6 @@ fn show_decoded(s: &[u8], r: MultiPlexedRecord) {
             say(b"read mark ", position);
             say_part(b" body ", s, body_start, 8);
         }
-        MultiPlexedRecord::None => {}
     }
 }
 

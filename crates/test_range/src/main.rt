@@ -4,7 +4,8 @@
 
 use mem_entries::blank;
 use multi_record_log::entries::range;
-use multi_record_log::{Lower, QuestionAnswer, RecordEntry, Upper};
+use multi_record_log::{QuestionAnswer, RecordEntry};
+use std::ops::Bound;
 use std::{fmt, io};
 
 // An answer, as it is printed.
@@ -37,7 +38,7 @@ fn entry(position: u64, length: usize) -> RecordEntry {
 }
 
 // The memory is arranged as docs/LAYOUT.md says, and the range asked for: all of it, and the answer, are locals that are lent.
-fn ask(rt: &impl Print, what: &str, name: &[u8], lower: Lower, upper: Upper) -> io::Result<()> {
+fn ask(rt: &impl Print, what: &str, name: &[u8], lower: Bound<u64>, upper: Bound<u64>) -> io::Result<()> {
     let table: [u64; 7] = [1, 1, 3, 11, 1, 0, 6];
     let records = [entry(0, 5), entry(1, 0), entry(5, 6), blank()];
     let largest: [u64; 4] = [0, 0, 2, 0];
@@ -59,18 +60,18 @@ fn ask(rt: &impl Print, what: &str, name: &[u8], lower: Lower, upper: Upper) -> 
 }
 
 fn main(rt: HostRuntime) -> io::Result<()> {
-    ask(&rt, "first", b"a", Lower::Unbounded, Upper::Unbounded)?;
-    ask(&rt, "after 0", b"a", Lower::After(0), Upper::Unbounded)?;
-    ask(&rt, "from 2", b"a", Lower::From(2), Upper::Unbounded)?;
-    ask(&rt, "from 5", b"a", Lower::From(5), Upper::Unbounded)?;
+    ask(&rt, "first", b"a", Bound::Unbounded, Bound::Unbounded)?;
+    ask(&rt, "after 0", b"a", Bound::Excluded(0), Bound::Unbounded)?;
+    ask(&rt, "from 2", b"a", Bound::Included(2), Bound::Unbounded)?;
+    ask(&rt, "from 5", b"a", Bound::Included(5), Bound::Unbounded)?;
     ask(
         &rt,
         "after 0 through 0",
         b"a",
-        Lower::After(0),
-        Upper::Through(0),
+        Bound::Excluded(0),
+        Bound::Included(0),
     )?;
-    ask(&rt, "from 6", b"a", Lower::From(6), Upper::Unbounded)?;
-    ask(&rt, "before 0", b"a", Lower::Unbounded, Upper::Before(0))?;
-    ask(&rt, "no queue", b"b", Lower::Unbounded, Upper::Unbounded)
+    ask(&rt, "from 6", b"a", Bound::Included(6), Bound::Unbounded)?;
+    ask(&rt, "before 0", b"a", Bound::Unbounded, Bound::Excluded(0))?;
+    ask(&rt, "no queue", b"b", Bound::Unbounded, Bound::Unbounded)
 }

@@ -3,7 +3,7 @@
 // report to go on with, 1 a log that is fed, 2 a question for the mean. examples/report/make.py works out from the documents' text what is to be printed.
 #![tactic(auto)]
 
-use report::MeanAnswer;
+use report::Mean;
 use std::alloc::Global;
 use std::io::{self, Read};
 
@@ -57,13 +57,13 @@ fn print_numbers(rt: &impl Print, held: &[u8]) -> io::Result<()> {
 
 fn print_mean(rt: &impl Print, held: &[u8]) -> io::Result<()> {
     match report::mean(held) {
-        MeanAnswer::Mean {
+        Ok(Some(Mean {
             whole,
             remainder,
             count,
-        } => println!(rt; "mean {whole} remainder {remainder} over {count}"),
-        MeanAnswer::Nothing => println!(rt; "mean none"),
-        MeanAnswer::Refused(number) => println!(rt; "mean refused {number}"),
+        })) => println!(rt; "mean {whole} remainder {remainder} over {count}"),
+        Ok(None) => println!(rt; "mean none"),
+        Err(refusal) => println!(rt; "mean refused {}", refusal.number()),
     }
 }
 
