@@ -27,17 +27,14 @@
 #![tactic(auto)]
 
 mod answers;
-mod appends;
 mod bytes;
-mod calling;
 mod changes;
-mod kinds;
+mod command;
+mod line;
 mod lines;
-mod marks;
+mod memory;
 mod questions;
 mod reads;
-mod replays;
-mod shows;
-mod words;
+mod writes;
 
 pub use lines::run;

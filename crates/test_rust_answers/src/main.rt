@@ -2,8 +2,11 @@
 // answered. `host/run sample` writes both files (host/src/bin/sample.rs).
 #![tactic(auto)]
 
-fn main() {
-    let mut list = [0u8; 262144];
-    let n = io::read_full(0, &mut list);
-    test_commands::run(&list[0..n]);
+use std::io::{self, Read};
+
+fn main(rt: HostRuntime) -> io::Result<()> {
+    let mut list = Vec::new(rt.alloc());
+    rt.stdin().read_to_end(&mut list)?;
+    test_commands::run(list.as_slice());
+    Ok(())
 }
