@@ -4,10 +4,10 @@ ghost use Rattle.report.specs.Feed.{feed_answer, feed_left, feed_number, mean_an
 ghost use Rattle.mrecordlog.specs.Reported.{mean_told, tell_mean};
 
 use crate::answers::number_told;
-use report::{Mean, ReportRefusal};
+use report::{MeanLength, ReportRefusal};
 
 fn tell_mean(
-    answer: Result<Option<Mean>, ReportRefusal>,
+    answer: Result<Option<MeanLength>, ReportRefusal>,
     found: &mut u64,
     quotient: &mut u64,
     rest: &mut u64,

@@ -20,7 +20,7 @@ use Rattle.report_count.specs.Table.{NumbersFit}
 use Rattle.std.specs.Prelude.{Option, None, Ok, Err}
 use Rattle.report.specs.declared.ReportRefusal.{ReportRefusal}
 use Rattle.report.specs.declared.ReportRefusal.TheVariants.{LogSize as log_size, NotArranged as not_arranged, ReportFull as report_full}
-use Rattle.report.specs.declared.Mean.{Mean}
+use Rattle.report.specs.declared.MeanLength.{MeanLength}
 use Rattle.report.specs.Layout.{report_numbers, number_bytes, numbers_arranged, report_arranged}
 use Rattle.report.specs.Internal.{NumbersOk}
 use Rattle.report.specs.Feed.{feed_refusal, refusal_of, feed_answer_by, feed_answer, fed_report, feed_left_by, feed_left, feed_number, mean, mean_of, sound_frames, mean_answer}
@@ -39,21 +39,19 @@ left_kept report log n e = ap (λ (n : ℕ). feed_left_by n report log) e
 
 -- no refusal, so the number is 0
 pub passes : (report log : List ℕ) → Ok tt ≡ feed_answer report log → feed_refusal report log ≡ 0
-unfolding feed_answer
+unfolding feed_answer feed_answer_by
 passes report log e = go (feed_refusal report log) e
   where
     go : (n : ℕ) → Ok tt ≡ feed_answer_by n → n ≡ 0
-    unfolding feed_answer_by
     go zero e = refl
     go (suc n) e = absurd (let z : ◌≡◌ {A = ℕ} 0 1 = cc in omega arith)
 
 -- refused: the report is left as it was
 pub refused_left : (report log : List ℕ) (k : ReportRefusal) → Err k ≡ feed_answer report log → report ≡ feed_left report log
-unfolding feed_answer feed_left
+unfolding feed_answer feed_answer_by feed_left feed_left_by
 refused_left report log k e = go (feed_refusal report log) e
   where
     go : (n : ℕ) → Err k ≡ feed_answer_by n → report ≡ feed_left_by n report log
-    unfolding feed_answer_by feed_left_by
     go zero e = absurd (let z : ◌≡◌ {A = ℕ} 0 1 = cc in omega arith)
     go (suc n) e = refl
 
@@ -147,7 +145,7 @@ unfolding mean_answer
 mean_refused report e =
     sym (ap (λ (a : Bool). cond a (Ok (mean_of (sound_frames (report_numbers report)) (get_or (report_numbers report) 11 0))) (Err not_arranged)) e)
 
-pub mean_given : (report : List ℕ) (m : Option Mean) → report_arranged report ≡ true
+pub mean_given : (report : List ℕ) (m : Option MeanLength) → report_arranged report ≡ true
     → m ≡ mean_of (sound_frames (report_numbers report)) (get_or (report_numbers report) 11 0) → Ok m ≡ mean_answer report
 unfolding mean_answer
 mean_given report m e f =

@@ -8,7 +8,7 @@ use Rattle.report_frames.specs.Tally.{tally}
 use Rattle.report_count.specs.Sums.{plus}
 use Rattle.report.specs.declared.ReportRefusal.{ReportRefusal}
 use Rattle.report.specs.declared.ReportRefusal.TheVariants.{LogSize as log_size, NotArranged as not_arranged, ReportFull as report_full}
-use Rattle.report.specs.declared.Mean.{Mean}
+use Rattle.report.specs.declared.MeanLength.{MeanLength}
 use Rattle.report.specs.Layout.{report_numbers, number_bytes, most_logs, report_arranged}
 
 -- ---- feeding
@@ -66,10 +66,10 @@ feed_number (Err e) = refusal_number e
 
 -- "the mean data length of sound frames as a whole number and a remainder over their count, or "none" when there are none": of so many frames, with so many
 -- bytes of data in all
-abbrev pub mean : ℕ → ℕ → ℕ → Option Mean
+abbrev pub mean : ℕ → ℕ → ℕ → Option MeanLength
 mean w r n = Some (record { whole = w; remainder = r; count = n })
 
-unfoldable pub mean_of : ℕ → ℕ → Option Mean
+unfoldable pub mean_of : ℕ → ℕ → Option MeanLength
 mean_of zero bytes = None
 mean_of (suc n) bytes = mean (bytes / suc n) (bytes % suc n) (suc n)
 
@@ -79,7 +79,7 @@ sound_frames ws = get_or ws 1 0 + get_or ws 3 0 + get_or ws 5 0 + get_or ws 7 0
 
 -- what the mean is answered as: the mean, that there are no sound frames, or why it is refused
 abbrev pub MeanAnswer : Type 0
-MeanAnswer = Result (Option Mean) ReportRefusal
+MeanAnswer = Result (Option MeanLength) ReportRefusal
 
 unfoldable pub mean_answer : List ℕ → MeanAnswer
 mean_answer report = cond (report_arranged report) (Ok (mean_of (sound_frames (report_numbers report)) (get_or (report_numbers report) 11 0))) (Err not_arranged)

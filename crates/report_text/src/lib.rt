@@ -12,7 +12,7 @@ ghost use Rattle.report_text.specs.Text.{row_line, table_lines, other_lines, mea
 use calls::Refusal;
 use frame::Reader;
 use listing::{Listed, answer, put_byte, put_bytes, put_number_line, put_numbered, refused};
-use report::{Mean, ReportRefusal};
+use report::{MeanLength, ReportRefusal};
 use slices::clear;
 
 // Two blocks.
@@ -54,7 +54,7 @@ fn put_counts(out: &mut [u8], at: usize, numbers: &[u64]) -> usize
     put_others(out, p, numbers)
 }
 
-fn put_parts(out: &mut [u8], at: usize, mean: Mean) -> usize
+fn put_parts(out: &mut [u8], at: usize, mean: MeanLength) -> usize
     ensures { Wrote out.old at (mean_line (Ok (Some mean))) result out.new }
 {
     let p = put_numbered(out, at, b"mean ", mean.whole);
@@ -62,7 +62,7 @@ fn put_parts(out: &mut [u8], at: usize, mean: Mean) -> usize
     put_number_line(out, p, b" over ", mean.count)
 }
 
-fn put_mean(out: &mut [u8], at: usize, mean: Result<Option<Mean>, ReportRefusal>) -> usize
+fn put_mean(out: &mut [u8], at: usize, mean: Result<Option<MeanLength>, ReportRefusal>) -> usize
     ensures { Wrote out.old at (mean_line mean) result out.new }
 {
     match mean {
