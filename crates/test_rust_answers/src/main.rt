@@ -1,5 +1,5 @@
-// A stored sample of the Rust's answers: standard input holds lists of commands, as the crate `test_commands` reads them, and the stored output is what the Rust
-// answered. `host/run sample` writes both files (host/src/bin/sample.rs).
+// A stored sample of the Rust's answers: standard input holds lists of commands, as the crate `test_commands` reads them, and the stored output is what
+// the Rust answered. `host/run sample` writes both files (host/src/bin/sample.rs).
 #![tactic(auto)]
 
 use std::io::{self, Read};
