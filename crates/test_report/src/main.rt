@@ -58,11 +58,15 @@ fn print_numbers(rt: &impl Print, held: &[u8]) -> io::Result<()> {
 
 fn print_mean(rt: &impl Print, held: &[u8]) -> io::Result<()> {
     match report::mean(held) {
-        Ok(Some(Mean {
-            whole,
-            remainder,
-            count,
-        })) => println!(rt; "mean {whole} remainder {remainder} over {count}"),
+        Ok(
+            Some(
+                Mean {
+                    whole,
+                    remainder,
+                    count,
+                },
+            ),
+        ) => println!(rt; "mean {whole} remainder {remainder} over {count}"),
         Ok(None) => println!(rt; "mean none"),
         Err(refusal) => println!(rt; "mean refused {}", refusal.number()),
     }

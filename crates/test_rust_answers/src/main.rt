@@ -2,6 +2,7 @@
 // the Rust answered. `host/run sample` writes both files (host/src/bin/sample.rs).
 #![tactic(auto)]
 
+// Kept: no plainer: `test_calls` and `test_rust_answers` are one program over two inputs, and a crate has one stdin and one stdout.
 use std::io::{self, Read};
 
 fn main(rt: HostRuntime) -> io::Result<()> {
