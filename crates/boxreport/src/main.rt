@@ -1,5 +1,5 @@
-// Feeds the cards whose files are named as arguments to a report, one after another, and prints a line for each card that is refused, then the report. A card that
-// could not be read, and a write that fails, are said on standard error, and nothing more is printed.
+// Feeds the cards whose files are named as arguments to a report, one after another, and prints a line for each card that is refused, then the report. A
+// card that could not be read, and a write that fails, are said on standard error, and nothing more is printed.
 #![tactic(auto)]
 
 use card_input::{fail, file_name, name_too_long, read_card};

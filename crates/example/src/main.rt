@@ -2,9 +2,7 @@
 // held. All memory is the caller's: the log, the scratch, and the queue memory.
 #![tactic(auto)]
 
-use multi_record_log::{
-    AtPosition, Called, CopyAnswer, QuestionAnswer, ReplayAnswer,
-};
+use multi_record_log::{AtPosition, Called, CopyAnswer, QuestionAnswer, ReplayAnswer};
 use std::io;
 use std::ops::Bound;
 

@@ -1,9 +1,7 @@
 // The memory of a case, and how much of it is lent to the calls.
 use crate::answers::sum;
 use crate::line::Line;
-use multi_record_log::{
-    AtPosition, Called, QuestionAnswer, ReadStep, Reader, ReplayAnswer,
-};
+use multi_record_log::{AtPosition, Called, QuestionAnswer, ReadStep, Reader, ReplayAnswer};
 use std::ops::Bound;
 
 // The memory of all cases.

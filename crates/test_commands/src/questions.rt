@@ -28,7 +28,9 @@ fn say_answer(payloads: &[u8], answer: QuestionAnswer) {
 
 // The first record of a queue, or that after a position: its position and length.
 fn first(memory: &Memory<'_>, name: &[u8], line: Line<'_>) {
-    let lower = line.number(b"after").map_or(Bound::Unbounded, Bound::Excluded);
+    let lower = line
+        .number(b"after")
+        .map_or(Bound::Unbounded, Bound::Excluded);
     match memory.range(name, lower, Bound::Unbounded) {
         QuestionAnswer::Record {
             position,
@@ -47,7 +49,11 @@ fn ranges(memory: &Memory<'_>, name: &[u8], line: Line<'_>) {
     let from = line.number_or_0(b"from");
     let to = line.number_or_0(b"to");
     text(b"range");
-    for lower in [Bound::Unbounded, Bound::Included(from), Bound::Excluded(from)] {
+    for lower in [
+        Bound::Unbounded,
+        Bound::Included(from),
+        Bound::Excluded(from),
+    ] {
         for upper in [Bound::Unbounded, Bound::Included(to), Bound::Excluded(to)] {
             say_answer(memory.payloads, memory.range(name, lower, upper));
         }

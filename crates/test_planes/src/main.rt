@@ -36,7 +36,11 @@ fn print_answer(answer: Result<(), PlanesError>, before: &[u8], target: &[u8]) {
             io::write_all(STDOUT, b"]\n");
         }
         Err(error) => {
-            let kept: &[u8] = if before == target { b" as before\n" } else { b" changed\n" };
+            let kept: &[u8] = if before == target {
+                b" as before\n"
+            } else {
+                b" changed\n"
+            };
             io::print_decimal(STDOUT, error.number());
             io::write_all(STDOUT, kept);
         }

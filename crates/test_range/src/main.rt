@@ -38,7 +38,13 @@ fn entry(position: u64, length: usize) -> RecordEntry {
 }
 
 // The memory is arranged as docs/LAYOUT.md says, and the range asked for: all of it, and the answer, are locals that are lent.
-fn ask(rt: &impl Print, what: &str, name: &[u8], lower: Bound<u64>, upper: Bound<u64>) -> io::Result<()> {
+fn ask(
+    rt: &impl Print,
+    what: &str,
+    name: &[u8],
+    lower: Bound<u64>,
+    upper: Bound<u64>,
+) -> io::Result<()> {
     let table: [u64; 7] = [1, 1, 3, 11, 1, 0, 6];
     let records = [entry(0, 5), entry(1, 0), entry(5, 6), blank()];
     let largest: [u64; 4] = [0, 0, 2, 0];

@@ -1,6 +1,7 @@
-// Feeds logs to a report and asks for the mean, as standard input says, and prints each answer with the report's numbers. An item is its kind, then two lengths of
-// three bytes each, the low one first: how long a run of bytes is and how many of its bytes are stored; these follow, and zeros up to its length. Kind 0 is a
-// report to go on with, 1 a log that is fed, 2 a question for the mean. examples/report/make.py works out from the documents' text what is to be printed.
+// Feeds logs to a report and asks for the mean, as standard input says, and prints each answer with the report's numbers. An item is its kind, then two
+// lengths of three bytes each, the low one first: how long a run of bytes is and how many of its bytes are stored; these follow, and zeros up to its
+// length. Kind 0 is a report to go on with, 1 a log that is fed, 2 a question for the mean. examples/report/make.py works out from the documents' text what
+// is to be printed.
 #![tactic(auto)]
 
 use report::Mean;
@@ -57,11 +58,15 @@ fn print_numbers(rt: &impl Print, held: &[u8]) -> io::Result<()> {
 
 fn print_mean(rt: &impl Print, held: &[u8]) -> io::Result<()> {
     match report::mean(held) {
-        Ok(Some(Mean {
-            whole,
-            remainder,
-            count,
-        })) => println!(rt; "mean {whole} remainder {remainder} over {count}"),
+        Ok(
+            Some(
+                Mean {
+                    whole,
+                    remainder,
+                    count,
+                },
+            ),
+        ) => println!(rt; "mean {whole} remainder {remainder} over {count}"),
         Ok(None) => println!(rt; "mean none"),
         Err(refusal) => println!(rt; "mean refused {}", refusal.number()),
     }
