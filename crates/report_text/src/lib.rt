@@ -1,7 +1,7 @@
 // What the depot's tool prints for a report, and a card fed.
 #![tactic(auto)]
 
-ghost use Rattle.std.specs.Prelude.{◌≡◌, true, length};
+ghost use Rattle.std.specs.Prelude.{◌≡◌, true, Some, Ok, length};
 ghost use Rattle.slices.specs.Bytes.{zeros};
 ghost use Rattle.listing.specs.Writing.{written, listed};
 ghost use Rattle.listing.specs.Internal.{SameOut, Puts, Lists};

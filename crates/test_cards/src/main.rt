@@ -2,13 +2,12 @@
 // stored, three bytes each, the low one first, then these bytes; zeros follow them up to the card's length.
 #![tactic(auto)]
 
-use listing::Listed;
 use std::alloc::Global;
 use std::io::Read;
 
 fn list(card: &[u8]) {
     let mut out = [0u8; 420235];
-    let Listed::Bytes(n) = readout_text::list_card(card, &mut out) else {
+    let Some(n) = readout_text::list_card(card, &mut out) else {
         return;
     };
     io::write_all(1, &out[..n]);
