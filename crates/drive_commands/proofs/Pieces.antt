@@ -6,7 +6,7 @@ use mathlib.Core.List.{List, [], ◌∷◌, ◌++◌}
 use Prim.Native.Nat.{ℕ, zero, suc, ◌≤◌}
 use native.Mathlib.Omega.{arith}
 use lib.Dec.{eqb}
-use borrow.Author.Tests.{eq-eqb, ne_eqb, eqb-true}
+use borrow.Author.Tests.{ne_eqb, eqb-true}
 use Rattle.calls.specs.State.{Call, CallAnswer, create_call, delete_call, truncate_call, append_call}
 use Rattle.call_write.specs.declared.Called.{Called}
 use Rattle.call_write.specs.declared.Called.TheVariants.{Done, Refused}
@@ -18,7 +18,9 @@ use Rattle.listing.specs.Listing.{space, numbered, number_line, refusal}
 use Rattle.listing.proofs.Writes.{on, reads, wrote_none_lem}
 use Rattle.drive_commands.specs.Commands.{name_in, number_in, payload_in, position_by, call_by}
 use Rattle.drive_commands.specs.Lines.{ok_word, position_text, told_of, counts_text, ok_line, line_by}
-use Rattle.drive_commands.specs.Internal.{told_for, ok_for, line_for}
+use Rattle.drive_commands.specs.Internal.{byte_of, told_for, ok_for, line_for}
+use Rattle.drive_commands.specs.declared.Command.{Command}
+use Rattle.drive_commands.specs.declared.Command.TheVariants.{Create, Append, Truncate, Delete}
 
 -- ---- the pieces
 
@@ -31,21 +33,22 @@ module _ {s t : List ℕ} {p q : ℕ} (last : Last) where
   unfolding position_text position_taken numbered
   at_on x e w = reads (sym (ap (λ (l : Last). space ++ position_text (position_taken l)) e)) w
 
-module _ (b : ℕ) (last : Last) (evicted : ℕ) where
-  told : Bool → Bool → List ℕ
-  told i j = cond i (space ++ position_text (position_taken last)) (cond j (numbered space evicted) [])
+module _ (k : Command) (last : Last) (evicted : ℕ) where
+  pub append_told : {s t : List ℕ} {p q : ℕ} → k ≡ Append → Wrote s p (space ++ position_text (position_taken last)) q t → Wrote s p (told_for (byte_of k) last evicted) q t
+  unfolding told_for
+  append_told e w = reads (ap (λ (c : Command). told_for (byte_of c) last evicted) (sym e)) w
 
-  pub append_told : {s t : List ℕ} {p q : ℕ} → b ≡ 2 → Wrote s p (space ++ position_text (position_taken last)) q t → Wrote s p (told_for b last evicted) q t
-  unfolding told_for told
-  append_told e w = reads (sym (ap (λ (i : Bool). told i (eqb b 3)) (eq-eqb b 2 e))) w
+  pub truncate_told : {s t : List ℕ} {p q : ℕ} → k ≡ Truncate → Wrote s p (numbered space evicted) q t → Wrote s p (told_for (byte_of k) last evicted) q t
+  unfolding told_for
+  truncate_told e w = reads (ap (λ (c : Command). told_for (byte_of c) last evicted) (sym e)) w
 
-  pub truncate_told : {s t : List ℕ} {p q : ℕ} → b ≡ 3 → Wrote s p (numbered space evicted) q t → Wrote s p (told_for b last evicted) q t
-  unfolding told_for told
-  truncate_told e w = reads (sym (ap₂ told (ne_eqb b 2 (λ f. omega (arith, e, f))) (eq-eqb b 3 e))) w
-
-  pub none_told : (s : List ℕ) (p : ℕ) → (b ≡ 2 → ⊥) → (b ≡ 3 → ⊥) → Wrote s p (told_for b last evicted) p s
-  unfolding told_for told
-  none_told s p h i = reads (sym (ap₂ told (ne_eqb b 2 h) (ne_eqb b 3 i))) (wrote_none_lem s p)
+-- nothing is told of another command
+pub none_told : (k : Command) (last : Last) (evicted : ℕ) (s : List ℕ) (p : ℕ) → (k ≡ Append → ⊥) → (k ≡ Truncate → ⊥) → Wrote s p (told_for (byte_of k) last evicted) p s
+unfolding told_for
+none_told Create last evicted s p h i = wrote_none_lem s p
+none_told Append last evicted s p h i = absurd (h refl)
+none_told Truncate last evicted s p h i = absurd (i refl)
+none_told Delete last evicted s p h i = wrote_none_lem s p
 
 pub ok_on : {s t u v x : List ℕ} {p q r m n : ℕ} (b : ℕ) (last : Last) (e f g : ℕ) → Wrote s p ok_word q t → Wrote t q (told_for b last e) r u
     → Wrote u r (numbered space f) m v → Wrote v m (number_line space g) n x → Wrote s p (ok_for b last e f g) n x

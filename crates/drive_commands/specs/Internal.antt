@@ -1,14 +1,23 @@
 -- Helper: for proofs; no promise rests on reading it.
 -- A line by the command's byte; tests of the operands.
 -- Assumes nothing.
-use Rattle.std.specs.Prelude.{Bool, false, cond, ◌&&◌, List, [], ◌∷◌, ◌++◌, ℕ, ◌-◌, ltb, eqb, get_or}
+use Rattle.std.specs.Prelude.{Bool, false, cond, List, [], ◌∷◌, ◌++◌, ℕ, eqb}
 use Rattle.call_write.specs.declared.Called.{Called}
 use Rattle.call_write.specs.declared.Called.TheVariants.{Done, Refused}
 use Rattle.call_write.specs.declared.Last.{Last}
 use Rattle.contracts.specs.Numbers.{position_taken}
 use Rattle.listing.specs.Listing.{space, numbered, number_line, refusal}
+use Rattle.drive_commands.specs.declared.Command.{Command}
+use Rattle.drive_commands.specs.declared.Command.TheVariants.{Create, Append, Truncate, Delete}
 use Rattle.drive_commands.specs.Commands.{is_command}
 use Rattle.drive_commands.specs.Lines.{ok_word, position_text}
+
+-- the byte of a command
+abbrev pub byte_of : Command → ℕ
+byte_of Create = 1
+byte_of Append = 2
+byte_of Truncate = 3
+byte_of Delete = 4
 
 -- what is told behind `ok`: the last position after an append, the evicted count after a truncate
 unfoldable pub told_for : ℕ → Last → ℕ → List ℕ
@@ -25,7 +34,3 @@ line_for b (Refused n) = refusal n
 unfoldable pub starts_command : List ℕ → Bool
 starts_command [] = false
 starts_command (b ∷ bs) = is_command b bs
-
--- whether the last of the first n bytes is zero
-unfoldable pub ends_in_zero : List ℕ → ℕ → Bool
-ends_in_zero xs n = ltb 0 n && eqb (get_or xs (n - 1) 0) 0

@@ -13,7 +13,7 @@ use Rattle.frame.specs.Block.{blocks}
 use Rattle.queues.specs.Queues.{Capacities}
 use Rattle.queues.specs.Layout.{capacities, queue_room, at_most64}
 use Rattle.calls.specs.Refusals.{log_refused}
-use Rattle.listing.specs.declared.Listed.{Listed}
+use Rattle.std.specs.Prelude.{Option}
 use Rattle.listing.specs.Writing.{written, listed}
 use Rattle.listing.specs.Listing.{refusal}
 use Rattle.readout_text.specs.Card.{text_in, readout_room, sized_text, not_sized, card_text}
@@ -60,7 +60,7 @@ text_is : (input scratch ns ps t : List ℕ) → length scratch ≡ 65536 → le
 unfolding sized_text
 text_is input scratch ns ps t s a b c = ap₂ (λ (x : Capacities) (k : ℕ). text_in input x k) (room_is ns ps t a b c) s
 
-pub sized_left : (input scratch ns ps ks t out : List ℕ) (r : Listed) (scratch' ns' ps' ks' t' out' : List ℕ) → length scratch ≡ 65536 → length ns ≡ 32768 → length ps ≡ 32768 → length t ≡ 196
+pub sized_left : (input scratch ns ps ks t out : List ℕ) (r : Option ℕ) (scratch' ns' ps' ks' t' out' : List ℕ) → length scratch ≡ 65536 → length ns ≡ 32768 → length ps ≡ 32768 → length t ≡ 196
     → out ≡ zeros (length out) → CardKept input scratch ns ps ks t out r scratch' ns' ps' ks' t' out'
     → (r ≡ listed (length out) (length (sized_text input))) × (out' ≡ written (zeros (length out)) 0 (sized_text input))
 sized_left input scratch ns ps ks t out r scratch' ns' ps' ks' t' out' s a b c clear w =
@@ -78,7 +78,7 @@ pub still_clear : (s t : List ℕ) → t ≡ zeros (length s) → t ≡ zeros (l
 still_clear s t e = e ∙ ap zeros (sym (clear_long s t e))
 
 -- the text x of the card is y
-module _ (x y s t : List ℕ) (r : Listed) (u : List ℕ) (e : x ≡ y) (clear : t ≡ zeros (length s)) where
+module _ (x y s t : List ℕ) (r : Option ℕ) (u : List ℕ) (e : x ≡ y) (clear : t ≡ zeros (length s)) where
   answer_as : r ≡ listed (length t) (length y) → r ≡ listed (length s) (length x)
   answer_as w = w ∙ ap₂ (λ (k : ℕ) (z : List ℕ). listed k (length z)) (clear_long s t clear) (sym e)
 

@@ -7,14 +7,14 @@ ghost use Rattle.readout_text.specs.Card.{card_text, sized_text};
 use crate::replayed::list_replayed;
 use calls::Refusal;
 use frame::Reader;
-use listing::{Listed, refused};
+use listing::refused;
 use slices::clear;
 
 // Two blocks.
 const MAX_CARD_LEN: usize = 2 * Reader::BLOCK_NUM_BYTES;
 
 // The text for one or two blocks, in a buffer of zeros.
-fn list_sized(input: &[u8], out: &mut [u8]) -> Listed
+fn list_sized(input: &[u8], out: &mut [u8]) -> Option<usize>
     requires { (32768 ≤ length input.now)
         × ((length input.now ≤ 65536)
         × (out.old ≡ zeros (length out.old))) }
@@ -38,15 +38,12 @@ fn list_sized(input: &[u8], out: &mut [u8]) -> Listed
 }
 
 // What `readout` prints for an input, with zeros after it.
-pub fn list_card(input: &[u8], out: &mut [u8]) -> Listed
+pub fn list_card(input: &[u8], out: &mut [u8]) -> Option<usize>
     ensures { (result ≡ listed (length out.old) (length (card_text input.now)))
         × (out.new ≡ written (zeros (length out.old)) 0 (card_text input.now)) }
 {
     clear(out);
-    if input.len() < Reader::BLOCK_NUM_BYTES {
-        return refused(out, Refusal::LOG_SIZE);
-    }
-    if MAX_CARD_LEN < input.len() {
+    if input.len() < Reader::BLOCK_NUM_BYTES || MAX_CARD_LEN < input.len() {
         return refused(out, Refusal::LOG_SIZE);
     }
     list_sized(input, out)

@@ -8,7 +8,7 @@ use Rattle.readout_text.proofs.card.list_sized.Goals as goal
 
 pub list_replayed-requires : goal.list_replayed-requires
 list_replayed-requires c =
-    (log_sized _ c.requires.0 c.requires.1.0, (omega (arith, length-replicate {A = ℕ} 1024 0), c.requires.1.1))
+    (log_sized _ c.requires.0 c.requires.1.0, omega (arith, length-replicate {A = ℕ} 1024 0))
 
 pub returns : goal.returns
 returns c =
