@@ -29,8 +29,10 @@ use Rattle.copy_records.proofs.Memory.{memory_typed}
 use Rattle.copy_write.specs.declared.CopyAnswer.{CopyAnswer}
 use Rattle.copy_write.specs.declared.CopyAnswer.TheVariants.{Copied as copy_done, Refused as copy_refused}
 use Rattle.copy_contracts.specs.Promises.{copy_numbers, CopyKept}
-use Rattle.cutdown_card.specs.declared.Cutdown.{Cutdown}
-use Rattle.cutdown_card.specs.declared.Cutdown.TheVariants.{Refused}
+use Rattle.std.specs.Prelude.{Result}
+use Rattle.cutdown_card.specs.declared.NotCut.{NotCut}
+use Rattle.std.specs.Prelude.Result.{Err}
+use Rattle.cutdown_card.specs.declared.NotCut.TheVariants.{Refused}
 use Rattle.cutdown_card.specs.Cutdown.{lent_for, cut_by, cut_into, answered_by, CutTyped}
 use Rattle.cutdown_card.specs.Kept.{copied_as, into_by, Into}
 
@@ -80,7 +82,7 @@ not_99 s e = on (copy_meets s)
     on (inr (inr (inr (inr h)))) = absurd (omega (arith, e, h))
 
 -- what a copy that is refused by n, 0 where it is not, comes to
-pub record By (n : ℕ) (qs : List Queue) (target : List ℕ) (r : Cutdown) (target' : List ℕ) : Type 0 where
+pub record By (n : ℕ) (qs : List Queue) (target : List ℕ) (r : Result ℕ NotCut) (target' : List ℕ) : Type 0 where
   pub typed : CutTyped (cut_by n qs)
   pub answer : r ≡ answered_by (length target) (cut_by n qs)
   pub target_left : target' ≡ into_by target (cut_by n qs)
@@ -97,7 +99,7 @@ module _ (target : List ℕ) (qs : List Queue) (limit : ℕ) (target' : List ℕ
   by_refusal zero e (copy_refused (suc k)) h w = absurd (omega (arith, h))
   by_refusal (suc n) e (copy_done end) h w = absurd (omega (arith, h))
   by_refusal (suc n) e (copy_refused zero) h w = never (not_99 lent (e ∙ sym h))
-  by_refusal (suc n) e (copy_refused (suc k)) h w = record { typed = tt; answer = ap Refused h; target_left = w }
+  by_refusal (suc n) e (copy_refused (suc k)) h w = record { typed = tt; answer = ap (λ (n : ℕ). Err (Refused n)) h; target_left = w }
 
   pub into_left : (c : CopyAnswer) → (copy_numbers c).refusal ≡ (copy_of lent).refusal → target' ≡ (copy_of lent).target → Into (left qs) limit target (copied_as c (length target)) target'
   unfolding copy_of cut_into
@@ -115,10 +117,10 @@ module _ (card scratch scratch' : List ℕ) (m m' : Memory) (ks ks' : List ℕ) 
   unfolding replay_answer
   answers = w.answer
 
-  pub into_refused : (k : ℕ) → a ≡ replay_refused k → Into came.outcome (length scratch) target (Refused k) target
+  pub into_refused : (k : ℕ) → a ≡ replay_refused k → Into came.outcome (length scratch) target (Err (Refused k)) target
   unfolding cut_into answered_by into_by
   into_refused k e =
-      subst (λ (o : Outcome). Into o (length scratch) target (Refused k) target)
+      subst (λ (o : Outcome). Into o (length scratch) target (Err (Refused k)) target)
       (sym (outcome_refused came.outcome came.lost came.lost_bytes came.resumed k (sym e ∙ answers)))
       (record { typed = tt; answer = refl; target_left = refl })
 
@@ -171,8 +173,8 @@ module _ (card scratch scratch' : List ℕ) (m m' : Memory) (ks ks' : List ℕ) 
 
 -- the same, as the code hands it on
 pub copied_as_lem : (card scratch scratch' : List ℕ) (m m' : Memory) (ks ks' : List ℕ) (a : ReplayAnswer) → ReplayKept card scratch m ks a scratch' m' ks' → (target : List ℕ) (i b j : ℕ) → a ≡ replayed i b j
-    → (c : CopyAnswer) (target' scratch'' : List ℕ) → CopyKept target scratch' m' ks' (copy_numbers c) target' scratch'' → {r : Cutdown} {n : ℕ} → n ≡ length target → r ≡ copied_as c n
+    → (c : CopyAnswer) (target' scratch'' : List ℕ) → CopyKept target scratch' m' ks' (copy_numbers c) target' scratch'' → {r : Result ℕ NotCut} {n : ℕ} → n ≡ length target → r ≡ copied_as c n
     → Into (replay_lent card (length scratch) m ks).outcome (length scratch) target r target'
 copied_as_lem card scratch scratch' m m' ks ks' a w target i b j e c target' scratch'' k l h =
-    subst (λ (x : Cutdown). Into (replay_lent card (length scratch) m ks).outcome (length scratch) target x target') (sym (h ∙ ap (copied_as c) l))
+    subst (λ (x : Result ℕ NotCut). Into (replay_lent card (length scratch) m ks).outcome (length scratch) target x target') (sym (h ∙ ap (copied_as c) l))
     (into_copied card scratch scratch' m m' ks ks' a w target i b j e c target' scratch'' k)

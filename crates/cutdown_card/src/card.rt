@@ -3,7 +3,7 @@ ghost use Rattle.std.specs.Prelude.{◌≡◌};
 ghost use Rattle.cutdown_card.specs.Cutdown.{CutKept};
 ghost use Rattle.cutdown_card.specs.Kept.{CutSizedKept};
 
-use crate::Cutdown;
+use crate::NotCut;
 use crate::parts::cut_into;
 use calls::Refusal;
 use frame::Reader;
@@ -12,7 +12,7 @@ use frame::Reader;
 const MAX_CARD_LEN: usize = 2 * Reader::BLOCK_NUM_BYTES;
 
 // The card's queues into the target, with `readout`'s memory.
-fn cut_sized(card: &[u8], target: &mut [u8]) -> Cutdown
+fn cut_sized(card: &[u8], target: &mut [u8]) -> Result<usize, NotCut>
     ensures { CutSizedKept card.now target.old result target.new }
 {
     let mut scratch = [0u8; 65536];
@@ -33,19 +33,16 @@ fn cut_sized(card: &[u8], target: &mut [u8]) -> Cutdown
     )
 }
 
-// The fresh card at the start of the buffer.
-pub fn cut_down(card: &[u8], out: &mut [u8]) -> Cutdown
+// The fresh card at the start of the buffer; answers its length.
+pub fn cut_down(card: &[u8], out: &mut [u8]) -> Result<usize, NotCut>
     ensures { CutKept card.now out.old result out.new }
 {
-    if card.len() < Reader::BLOCK_NUM_BYTES {
-        return Cutdown::Refused(Refusal::LOG_SIZE);
-    }
-    if MAX_CARD_LEN < card.len() {
-        return Cutdown::Refused(Refusal::LOG_SIZE);
+    if card.len() < Reader::BLOCK_NUM_BYTES || MAX_CARD_LEN < card.len() {
+        return Err(NotCut::Refused(Refusal::LOG_SIZE));
     }
     let len = card.len() / Reader::BLOCK_NUM_BYTES * Reader::BLOCK_NUM_BYTES;
     if out.len() < len {
-        return Cutdown::NoRoom;
+        return Err(NotCut::NoRoom);
     }
     cut_sized(card, &mut out[..len])
 }

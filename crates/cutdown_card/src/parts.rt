@@ -3,16 +3,16 @@ ghost use Rattle.std.specs.Prelude.{◌≡◌};
 ghost use Rattle.abi_call.specs.OnBytes.{memory_bytes};
 ghost use Rattle.cutdown_card.specs.Kept.{copied_as, CutIntoKept};
 
-use crate::Cutdown;
+use crate::NotCut;
 use multi_record_log::{CopyAnswer, ReplayAnswer, copy, replay};
 
 // A copy that is not refused fills the target, which is this long.
-pub fn written(answer: CopyAnswer, len: usize) -> Cutdown
+pub fn written(answer: CopyAnswer, len: usize) -> Result<usize, NotCut>
     ensures { result ≡ copied_as answer len }
 {
     match answer {
-        CopyAnswer::Copied(end) => Cutdown::Written(len),
-        CopyAnswer::Refused(number) => Cutdown::Refused(number),
+        CopyAnswer::Copied(_) => Ok(len),
+        CopyAnswer::Refused(number) => Err(NotCut::Refused(number)),
     }
 }
 
@@ -26,7 +26,7 @@ pub fn cut_into(
     largest: &mut [u8],
     table: &mut [u8],
     target: &mut [u8],
-) -> Cutdown
+) -> Result<usize, NotCut>
     ensures { CutIntoKept
         card.now
         scratch.old
@@ -35,10 +35,11 @@ pub fn cut_into(
         result
         target.new }
 {
-    let replayed = replay(card, scratch, names, payloads, entries, largest, table);
-    let ReplayAnswer::Refused(number) = replayed else {
-        let copied = copy(target, scratch, names, payloads, entries, largest, table);
-        return written(copied, target.len());
-    };
-    Cutdown::Refused(number)
+    match replay(card, scratch, names, payloads, entries, largest, table) {
+        ReplayAnswer::Replayed { .. } => written(
+            copy(target, scratch, names, payloads, entries, largest, table),
+            target.len(),
+        ),
+        ReplayAnswer::Refused(number) => Err(NotCut::Refused(number)),
+    }
 }

@@ -133,18 +133,18 @@ turned {g} {g'} input p called t w₀ v =
 -- ---- the loop
 
 -- after some commands: their lines are written, and what is left comes to what the whole comes to
-pub record Going (input : List ℕ) (g₀ g : LentBytes) (out₀ out : List ℕ) (p at : ℕ) : Type 0 where
+pub record Going (input : List ℕ) (g₀ g : LentBytes) (out₀ : List ℕ) (at₀ : ℕ) (out : List ℕ) (p at : ℕ) : Type 0 where
   pub text : List ℕ
-  pub wrote : Wrote out₀ 0 text at out
+  pub wrote : Wrote out₀ at₀ text at out
   pub lines : text ++ lines_from (state_of (lent_in g)) (drop p input) ≡ lines_from (state_of (lent_in g₀)) input
   pub state : state_from (state_of (lent_in g)) (drop p input) ≡ state_from (state_of (lent_in g₀)) input
   pub inside : p ≤ length input
 
-pub going_none : (input : List ℕ) (g : LentBytes) (out : List ℕ) → Going input g g out out 0 0
-going_none input g out = record { text = []; wrote = wrote_none_lem out 0; lines = refl; state = refl; inside = omega arith }
+pub going_none : (input : List ℕ) (g : LentBytes) (out : List ℕ) (at : ℕ) → Going input g g out at out 0 at
+going_none input g out at = record { text = []; wrote = wrote_none_lem out at; lines = refl; state = refl; inside = omega arith }
 
-pub going_on : {input : List ℕ} {g₀ g g' : LentBytes} {out₀ out out' : List ℕ} {p q at r : ℕ} → There input p → q ≡ passed input p
-    → Turned input p g g' out at r out' → Going input g₀ g out₀ out p at → Going input g₀ g' out₀ out' q r
+pub going_on : {input : List ℕ} {g₀ g g' : LentBytes} {out₀ out out' : List ℕ} {at₀ p q at r : ℕ} → There input p → q ≡ passed input p
+    → Turned input p g g' out at r out' → Going input g₀ g out₀ at₀ out p at → Going input g₀ g' out₀ at₀ out' q r
 going_on {input} {g₀} {g} {g'} {p = p} {q = q} h e t w =
     let s : State = state_of (lent_in g) in
     let turn = text_turn.goes_on s (drop p input) t.asked (drop (passed input p) input) t.stands in
@@ -161,8 +161,8 @@ going_on {input} {g₀} {g} {g'} {p = p} {q = q} h e t w =
       inside = omega (arith, e, h.ends);
     }
 
-pub going_end : {input : List ℕ} {g₀ g : LentBytes} {out₀ out out' : List ℕ} {p at r : ℕ} → starts_command (drop p input) ≡ false
-    → Going input g₀ g out₀ out p at → Wrote out at (end_line (drop p input)) r out' → Ran input g₀ g out₀ r out'
+pub going_end : {input : List ℕ} {g₀ g : LentBytes} {out₀ out out' : List ℕ} {at₀ p at r : ℕ} → starts_command (drop p input) ≡ false
+    → Going input g₀ g out₀ at₀ out p at → Wrote out at (end_line (drop p input)) r out' → Ran input g₀ g out₀ at₀ r out'
 going_end {input} {g₀} {g} {p = p} e w v =
     let last = ends_so (state_of (lent_in g)) (drop p input) e in
     record {

@@ -1,5 +1,6 @@
 // Numbers in decimal, and runs of bytes in lower-case hex.
-// Kept: no plainer: `write!` through a `Display` says nothing of the buffer where its answer is an `Err`, and a text that does not fit is promised as far as it fits.
+// Kept: no plainer: `write!` through a `Display` says nothing of the buffer where its answer is an `Err`, and a text that does not fit
+// is promised as far as it fits.
 ghost use Rattle.std.specs.Prelude.{◌≡◌, [], ◌∷◌, ◌<◌};
 ghost use Rattle.listing.specs.Internal.{SameOut, Puts};
 ghost use Rattle.listing.specs.Digits.{digit, hex_run, hex, decimal};

@@ -6,4 +6,4 @@ use Rattle.drive_text.proofs.command.append_payload.Goals as goal
 
 pub returns : goal.returns
 unfolding payload_in
-returns c = appends c.at_position-position.ensures c.append.ensures
+returns c = appends c.at_position.ensures c.append.ensures
