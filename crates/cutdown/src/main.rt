@@ -2,7 +2,7 @@
 // `refused` and the number, and so is a read or a write that fails; then nothing is written, or, where a write fails, perhaps a part.
 #![tactic(auto)]
 
-use card_input::{State, fail, read_card};
+use card_input::{fail, read_card};
 use cutdown_card::Cutdown;
 use listing::Listed;
 use std::io::Write;
@@ -33,11 +33,8 @@ fn cut<O: Write, E: Write>(output: &mut O, errors: &mut E, input: &[u8]) {
 fn main(rt: HostRuntime) {
     let mut errors = rt.stderr();
     let mut input = [0u8; 65537];
-    let reading = read_card(&mut rt.stdin(), &mut input);
-    let n = reading.bytes;
-    match reading.state {
-        State::Ended => cut(&mut rt.stdout(), &mut errors, &input[..n]),
-        State::Failed(error) => fail(&mut errors, b"cutdown: standard input", error),
-        State::Going => unreachable!(),
+    match read_card(&mut rt.stdin(), &mut input) {
+        Ok(n) => cut(&mut rt.stdout(), &mut errors, &input[..n]),
+        Err(failed) => fail(&mut errors, b"cutdown: standard input", failed.error),
     }
 }
