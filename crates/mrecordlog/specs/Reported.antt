@@ -2,7 +2,6 @@
 -- The mean of a report as numbers.
 -- Assumes nothing.
 use Rattle.std.specs.Prelude.{Some, None, Ok, Err, ℕ}
-use Rattle.contracts.specs.Numbers.{number_of}
 use Rattle.report.specs.Feed.{refusal_number, MeanAnswer}
 
 -- found 1 where there is a mean
@@ -19,4 +18,4 @@ mean_told r f w m n = record { refusal = r; found = f; whole = w; remainder = m;
 unfoldable pub tell_mean : MeanAnswer → MeanTold
 tell_mean (Ok (Some m)) = mean_told 0 1 m.whole m.remainder m.count
 tell_mean (Ok None) = mean_told 0 0 0 0 0
-tell_mean (Err e) = mean_told (number_of (refusal_number e)) 0 0 0 0
+tell_mean (Err e) = mean_told (refusal_number e) 0 0 0 0

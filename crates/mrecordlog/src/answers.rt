@@ -1,5 +1,6 @@
 // The arguments and the answers of the calls as numbers.
 ghost use Rattle.std.specs.Prelude.{◌≡◌};
+ghost use Rattle.calls.specs.Refused.{numbered};
 ghost use Rattle.call_decide.specs.Request.{position_of};
 ghost use Rattle.contracts.specs.Numbers.{called_numbers};
 ghost use Rattle.copy_contracts.specs.Promises.{copy_numbers};
@@ -46,7 +47,7 @@ pub fn tell_replay(
     lost_bytes: &mut u64,
     resumed: &mut u64,
 ) -> u64
-    ensures { replay_told result lost.new lost_bytes.new resumed.new ≡ tell_replay answer }
+    ensures { replay_told result lost.new lost_bytes.new resumed.new ≡ tell_replay (numbered answer) }
 {
     match answer {
         Ok(replayed) => {

@@ -3,7 +3,6 @@ ghost use Rattle.std.specs.Prelude.{◌≡◌};
 ghost use Rattle.report.specs.Feed.{feed_answer, feed_left, feed_number, mean_answer};
 ghost use Rattle.mrecordlog.specs.Reported.{mean_told, tell_mean};
 
-use crate::answers::number_told;
 use report::{MeanLength, ReportRefusal};
 
 fn tell_mean(
@@ -36,7 +35,7 @@ fn tell_mean(
             *quotient = 0;
             *rest = 0;
             *frames = 0;
-            number_told(refusal.number())
+            refusal.number()
         }
     }
 }

@@ -1,5 +1,6 @@
 // The questions.
 ghost use Rattle.std.specs.Prelude.{◌≡◌};
+ghost use Rattle.calls.specs.Refused.{numbered};
 ghost use Rattle.contracts.specs.Numbers.{positions_numbers, largest_numbers};
 ghost use Rattle.abi_call.specs.OnBytes.{memory_bytes};
 ghost use Rattle.abi_largest.specs.Numbers.{numbers};
@@ -31,7 +32,7 @@ fn tell_range(
     len: &mut u64,
 ) -> u64
     ensures { range_told result found.new at.new from.new len.new
-        ≡ tell_range answer }
+        ≡ tell_range (numbered answer) }
 {
     *found = 0;
     *at = 0;

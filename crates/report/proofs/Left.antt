@@ -47,9 +47,9 @@ passes report log e = go (feed_refusal report log) e
     go (suc n) e = absurd (let z : ◌≡◌ {A = ℕ} 0 1 = cc in omega arith)
 
 -- refused: the report is left as it was
-pub refused_left : (report log : List ℕ) (k : ReportRefusal) → Err k ≡ feed_answer report log → report ≡ feed_left report log
+pub kept_as : (report log : List ℕ) (k : ReportRefusal) → Err k ≡ feed_answer report log → report ≡ feed_left report log
 unfolding feed_answer feed_answer_by feed_left feed_left_by
-refused_left report log k e = go (feed_refusal report log) e
+kept_as report log k e = go (feed_refusal report log) e
   where
     go : (n : ℕ) → Err k ≡ feed_answer_by n → report ≡ feed_left_by n report log
     go zero e = absurd (let z : ◌≡◌ {A = ℕ} 0 1 = cc in omega arith)
