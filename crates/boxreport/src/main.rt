@@ -3,7 +3,6 @@
 #![tactic(auto)]
 
 use card_input::{fail, file_name, name_too_long, read_card};
-use listing::Listed;
 use std::env::FillError;
 use std::fs::File;
 use std::io::{Error, Read, Write};
@@ -32,8 +31,8 @@ impl<O: Write, E: Write> Feeder<'_, O, E> {
     }
 
     // Writes a text that stands in the buffer.
-    fn show(&mut self, listed: Listed, text: &[u8]) -> Result<(), Stopped> {
-        let Listed::Bytes(n) = listed else {
+    fn show(&mut self, listed: Option<usize>, text: &[u8]) -> Result<(), Stopped> {
+        let Some(n) = listed else {
             return Err(Stopped);
         };
         let Some(text) = text.get(..n) else {

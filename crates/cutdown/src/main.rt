@@ -3,13 +3,12 @@
 #![tactic(auto)]
 
 use card_input::{fail, read_card};
-use cutdown_card::Cutdown;
-use listing::Listed;
+use cutdown_card::NotCut;
 use std::io::Write;
 
 fn tell<E: Write>(errors: &mut E, number: u64) {
     let mut line = [0u8; 32];
-    let Listed::Bytes(n) = listing::refused(&mut line, number) else {
+    let Some(n) = listing::refused(&mut line, number) else {
         return;
     };
     let _ = errors.write_all(&line[..n]);
@@ -24,9 +23,9 @@ fn write<O: Write, E: Write>(output: &mut O, errors: &mut E, fresh: &[u8]) {
 fn cut<O: Write, E: Write>(output: &mut O, errors: &mut E, input: &[u8]) {
     let mut fresh = [0u8; 65536];
     match cutdown_card::cut_down(input, &mut fresh) {
-        Cutdown::Written(n) => write(output, errors, &fresh[..n]),
-        Cutdown::Refused(number) => tell(errors, number),
-        Cutdown::NoRoom => (),
+        Ok(n) => write(output, errors, &fresh[..n]),
+        Err(NotCut::Refused(number)) => tell(errors, number),
+        Err(NotCut::NoRoom) => (),
     }
 }
 

@@ -4,7 +4,6 @@
 #![tactic(auto)]
 
 use card_input::{fail, file_name, name_too_long, read_card};
-use listing::Listed;
 use std::env::FillError;
 use std::fs;
 use std::io::{Error, Write};
@@ -64,7 +63,7 @@ fn show<R: Files + Env, O: Write, E: Write>(
     log: &mut [u8; 65536],
 ) {
     let mut text = [0u8; 247570];
-    let Listed::Bytes(n) = drive_text::drive(input, log, &mut text) else {
+    let Some(n) = drive_text::drive(input, log, &mut text) else {
         return;
     };
     let _ = print(rt, output, errors, &text[..n], log, input.len());

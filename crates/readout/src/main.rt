@@ -3,12 +3,11 @@
 #![tactic(auto)]
 
 use card_input::{fail, read_card};
-use listing::Listed;
 use std::io::Write;
 
 fn show<O: Write, E: Write>(output: &mut O, errors: &mut E, input: &[u8]) {
     let mut text = [0u8; 420235];
-    let Listed::Bytes(n) = readout_text::list_card(input, &mut text) else {
+    let Some(n) = readout_text::list_card(input, &mut text) else {
         return;
     };
     if let Err(error) = output.write_all(&text[..n]) {

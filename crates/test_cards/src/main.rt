@@ -2,13 +2,12 @@
 // stored, three bytes each, the low one first, then these bytes; zeros follow them up to the card's length.
 #![tactic(auto)]
 
-use listing::Listed;
 use std::alloc::Global;
 use std::io::Read;
 
 fn list(card: &[u8]) {
     let mut out = [0u8; 420235];
-    let Listed::Bytes(n) = readout_text::list_card(card, &mut out) else {
+    let Some(n) = readout_text::list_card(card, &mut out) else {
         return;
     };
     io::write_all(1, &out[..n]);
@@ -26,7 +25,7 @@ fn next_card(alloc: Global, input: &mut impl Read) -> std::io::Result<Option<Vec
     }
     let [a, b, c, d, e, f] = head;
     let mut card = vec![in alloc; 0u8; length(a, b, c)]?;
-    let Some(stored) = card.as_mut_slice().get_mut(..length(d, e, f)) else {
+    let Some(stored) = card.get_mut(..length(d, e, f)) else {
         return Ok(None);
     };
     input.read_exact(stored)?;

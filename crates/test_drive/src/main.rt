@@ -3,7 +3,6 @@
 // there 0 times ends it.
 #![tactic(auto)]
 
-use listing::Listed;
 use std::alloc::Global;
 use std::io::Read;
 
@@ -50,7 +49,7 @@ fn print(text: &[u8], log: &[u8]) {
 
 fn show(input: &[u8], log: &mut [u8; 65536]) {
     let mut out = [0u8; 247570];
-    let Listed::Bytes(n) = drive_text::drive(input, log, &mut out) else {
+    let Some(n) = drive_text::drive(input, log, &mut out) else {
         return;
     };
     print(&out[..n], log);
