@@ -91,7 +91,7 @@ fn next_log(
     stored: usize,
 ) -> io::Result<Vec<u8>> {
     let mut log = vec![in alloc; 0u8; len]?;
-    if let Some(bytes) = log.get_mut(..stored) {
+    if let Some(bytes) = log.as_mut_slice().get_mut(..stored) {
         input.read_exact(bytes)?;
     }
     Ok(log)

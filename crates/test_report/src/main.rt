@@ -27,7 +27,7 @@ fn next_run(
     stored: usize,
 ) -> io::Result<Vec<u8>> {
     let mut run = vec![in alloc; 0u8; len]?;
-    if let Some(bytes) = run.get_mut(..stored) {
+    if let Some(bytes) = run.as_mut_slice().get_mut(..stored) {
         input.read_exact(bytes)?;
     }
     Ok(run)
