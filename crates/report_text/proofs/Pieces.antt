@@ -7,6 +7,7 @@ use Prim.Native.Nat.{ℕ}
 use lib.ListN.{length, get_or, length-replicate}
 use Rattle.slices.specs.Bytes.{zeros}
 use Rattle.std.specs.Prelude.{Option}
+use Rattle.report.specs.declared.MeanLength.{MeanLength}
 use Rattle.listing.specs.Writing.{written, listed}
 use Rattle.listing.specs.Internal.{Wrote, Lists}
 use Rattle.listing.specs.Listing.{numbered, number_line, refused_word, space, line_feed, refusal}
@@ -45,12 +46,12 @@ parts_on w k n a b c = on a (on b c)
 
 -- ---- the mean's line by its cases
 
-pub mean_is : {s t : List ℕ} {p q : ℕ} (a b : MeanAnswer) → a ≡ b → Wrote s p (mean_line b) q t → Wrote s p (mean_line a) q t
-mean_is a b e x = reads (ap mean_line (sym e)) x
+pub mean_is : {s t : List ℕ} {p q : ℕ} (a : MeanAnswer) (m n : Option MeanLength) → a ≡ Ok m → m ≡ n → Wrote s p (mean_line (Ok n)) q t → Wrote s p (mean_line a) q t
+mean_is a m n e f x = reads (ap (λ (y : Option MeanLength). mean_line (Ok y)) (sym f) ∙ ap mean_line (sym e)) x
 
-pub none_is : {s t : List ℕ} {p q : ℕ} (a : MeanAnswer) → a ≡ Ok None → Wrote s p no_mean_line q t → Wrote s p (mean_line a) q t
+pub none_is : {s t : List ℕ} {p q : ℕ} (a : MeanAnswer) (m : Option MeanLength) → a ≡ Ok m → m ≡ None → Wrote s p no_mean_line q t → Wrote s p (mean_line a) q t
 unfolding mean_line
-none_is a e x = reads (ap mean_line (sym e)) x
+none_is a m e f x = mean_is a m None e f x
 
 pub refused_is : {s t : List ℕ} {p q : ℕ} (a : MeanAnswer) (k : ReportRefusal) {n : ℕ} → a ≡ Err k → n ≡ refusal_number k → Wrote s p (number_line refused_word n) q t → Wrote s p (mean_line a) q t
 unfolding mean_line refusal

@@ -6,7 +6,7 @@ ghost use Rattle.slices.specs.Bytes.{zeros};
 ghost use Rattle.listing.specs.Writing.{written, listed};
 ghost use Rattle.listing.specs.Internal.{SameOut, Puts, Lists};
 ghost use Rattle.report.specs.Layout.{report_numbers, report_arranged};
-ghost use Rattle.report.specs.Feed.{mean_answer};
+ghost use Rattle.report.specs.Feed.{feed_number, mean_answer};
 ghost use Rattle.report_text.specs.Text.{row_line, table_lines, other_lines, mean_line, count_lines, report_text, refused_line, card_refusal, card_left};
 
 use calls::Refusal;
@@ -96,7 +96,7 @@ pub fn list_report(report: &[u8], out: &mut [u8]) -> Option<usize>
 {
     clear(out);
     if !report::report_arranged(report) {
-        return refused(out, Refusal::NOT_ARRANGED);
+        return refused(out, Refusal::NotArranged.number());
     }
     list_arranged(out, report)
 }
@@ -114,13 +114,13 @@ pub fn list_refused(number: u64, name: &[u8], out: &mut [u8]) -> Option<usize>
     text.listed()
 }
 
-// A card fed to the report; answers the number of the refusal, 0 where there is none. A refusal leaves the report as it was.
-pub fn feed_card(report: &mut [u8], card: &[u8]) -> u64
-    ensures { (result ≡ card_refusal report.old card.now)
+// A card fed to the report. A refusal leaves the report as it was.
+pub fn feed_card(report: &mut [u8], card: &[u8]) -> Result<(), ReportRefusal>
+    ensures { (feed_number result ≡ card_refusal report.old card.now)
         × (report.new ≡ card_left report.old card.now) }
 {
     if MAX_CARD_LEN < card.len() {
-        return Refusal::LOG_SIZE;
+        return Err(ReportRefusal::LogSize);
     }
-    report::number(report::feed(report, card))
+    report::feed(report, card)
 }
