@@ -6,9 +6,11 @@ mod parts;
 
 pub use card::cut_down;
 
+use calls::Refusal;
+
 // Why there is no fresh card: replay or the copy refused it, or the buffer is too short for its blocks.
 #[derive(Clone, Copy, PartialEq, Eq)]
 pub enum NotCut {
-    Refused(u64),
+    Refused(Refusal),
     NoRoom,
 }
