@@ -1,143 +1,108 @@
-// Feeds the cards whose files are named as arguments to a report, one after another, and prints a line for each card that is refused, then the report. A card that
-// could not be read, and a write that fails, are said on standard error, and nothing more is printed.
+// Feeds the cards whose files are named as arguments to a report, one after another, and prints a line for each card that is refused, then the report. A
+// card that could not be read, and a write that fails, are said on standard error, and nothing more is printed.
 #![tactic(auto)]
 
-use card_input::{State, fail, file_name, name_too_long, read_card};
-use listing::Listed;
+use card_input::{fail, file_name, name_too_long, read_card};
 use std::env::FillError;
 use std::fs::File;
 use std::io::{Error, Read, Write};
 use std::rt::{Env, Files};
 
-// Writes a text that stands in the buffer; answers whether all of it was written.
-fn show<O: Write, E: Write>(output: &mut O, errors: &mut E, listed: Listed, text: &[u8]) -> bool {
-    let Listed::Bytes(n) = listed else {
-        return false;
-    };
-    if text.len() < n {
-        return false;
-    }
-    match output.write_all(&text[..n]) {
-        Ok(()) => true,
-        Err(error) => {
-            fail(errors, b"boxreport: standard output", error);
-            false
-        }
-    }
-}
+// Something failed, which was said on standard error.
+#[derive(Clone, Copy)]
+struct Stopped;
 
-// The line of a card that is refused.
-fn show_refused<O: Write, E: Write>(
-    output: &mut O,
-    errors: &mut E,
-    number: u64,
-    name: &[u8],
-) -> bool {
-    let mut text = [0u8; 8192];
-    let listed = report_text::list_refused(number, name, &mut text);
-    show(output, errors, listed, &text)
-}
-
-fn show_report<O: Write, E: Write>(output: &mut O, errors: &mut E, held: &[u8]) -> bool {
-    let mut text = [0u8; 1024];
-    let listed = report_text::list_report(held, &mut text);
-    show(output, errors, listed, &text)
-}
-
-// A card that was read.
-fn feed<O: Write, E: Write>(
-    output: &mut O,
-    errors: &mut E,
-    held: &mut [u8],
-    name: &[u8],
-    card: &[u8],
-) -> bool {
-    let number = report_text::feed_card(held, card);
-    if number == 0 {
-        return true;
-    }
-    show_refused(output, errors, number, name)
-}
-
-// The card in an open file. A card longer than the buffer's last byte but one is too long, whatever follows.
-fn feed_open<F: Read, O: Write, E: Write>(
-    output: &mut O,
-    errors: &mut E,
-    held: &mut [u8],
-    name: &[u8],
-    file: &mut F,
-) -> bool {
-    let mut card = [0u8; 65537];
-    let reading = read_card(file, &mut card);
-    let n = reading.bytes;
-    match reading.state {
-        State::Ended => feed(output, errors, held, name, &card[..n]),
-        State::Failed(error) => {
-            fail(errors, name, error);
-            false
-        }
-        State::Going => unreachable!(),
-    }
+// The report, and where its text and what fails are written.
+#[derive(Drop)]
+struct Feeder<'a, O, E> {
+    output: &'a mut O,
+    errors: &'a mut E,
+    held: [u8; 96],
 }
 
 fn open<R: Files>(rt: &R, name: &[u8]) -> Result<R::File, Error> {
     File::open(rt, file_name(name)?)
 }
 
-fn feed_named<R: Files, O: Write, E: Write>(
-    rt: &R,
-    output: &mut O,
-    errors: &mut E,
-    held: &mut [u8],
-    name: &[u8],
-) -> bool {
-    match open(rt, name) {
-        Ok(mut file) => feed_open(output, errors, held, name, &mut file),
-        Err(error) => {
-            fail(errors, name, error);
-            false
+impl<O: Write, E: Write> Feeder<'_, O, E> {
+    fn stop(&mut self, what: &[u8], error: Error) -> Stopped {
+        fail(self.errors, what, error);
+        Stopped
+    }
+
+    // Writes a text that stands in the buffer.
+    fn show(&mut self, listed: Option<usize>, text: &[u8]) -> Result<(), Stopped> {
+        let Some(n) = listed else {
+            return Err(Stopped);
+        };
+        let Some(text) = text.get(..n) else {
+            return Err(Stopped);
+        };
+        match self.output.write_all(text) {
+            Ok(()) => Ok(()),
+            Err(error) => Err(self.stop(b"boxreport: standard output", error)),
         }
     }
-}
 
-// What came of an argument: its card was fed, or something failed, or there is none.
-#[derive(Clone, Copy)]
-enum Argument {
-    Fed,
-    Failed,
-    NotPresent,
-}
-
-// The card that argument i names.
-fn feed_argument<R: Files + Env, O: Write, E: Write>(
-    rt: &R,
-    output: &mut O,
-    errors: &mut E,
-    held: &mut [u8],
-    i: usize,
-) -> Argument {
-    let mut name = [0u8; 4096];
-    match rt.arg(i, &mut name) {
-        Ok(n) if feed_named(rt, output, errors, held, &name[..n]) => Argument::Fed,
-        Ok(_) => Argument::Failed,
-        Err(FillError::NotPresent) => Argument::NotPresent,
-        Err(FillError::TooLong) => {
-            fail(errors, b"boxreport: a card's name", name_too_long());
-            Argument::Failed
+    // A card that was read, and the line of one that is refused.
+    fn feed(&mut self, name: &[u8], card: &[u8]) -> Result<(), Stopped> {
+        match report_text::feed_card(&mut self.held, card) {
+            Ok(()) => Ok(()),
+            Err(refusal) => {
+                let mut text = [0u8; 8192];
+                let listed = report_text::list_refused(refusal.number(), name, &mut text);
+                self.show(listed, &text)
+            }
         }
+    }
+
+    // The card in an open file. A card longer than the buffer's last byte but one is too long, whatever follows.
+    fn feed_open<F: Read>(&mut self, name: &[u8], file: &mut F) -> Result<(), Stopped> {
+        let mut card = [0u8; 65537];
+        match read_card(file, &mut card) {
+            Ok(n) => self.feed(name, &card[..n]),
+            Err(failed) => Err(self.stop(name, failed.error)),
+        }
+    }
+
+    fn feed_named<R: Files>(&mut self, rt: &R, name: &[u8]) -> Result<(), Stopped> {
+        match open(rt, name) {
+            Ok(mut file) => self.feed_open(name, &mut file),
+            Err(error) => Err(self.stop(name, error)),
+        }
+    }
+
+    // The card that argument i names. Answers whether there is such an argument.
+    fn feed_argument<R: Files + Env>(&mut self, rt: &R, i: usize) -> Result<bool, Stopped> {
+        let mut name = [0u8; 4096];
+        match rt.arg(i, &mut name) {
+            Ok(n) => {
+                self.feed_named(rt, &name[..n])?;
+                Ok(true)
+            }
+            Err(FillError::NotPresent) => Ok(false),
+            Err(FillError::TooLong) => Err(self.stop(b"boxreport: a card's name", name_too_long())),
+        }
+    }
+
+    // All cards, and then the report.
+    fn run<R: Files + Env>(&mut self, rt: &R) -> Result<(), Stopped> {
+        for i in 1..usize::MAX {
+            if !self.feed_argument(rt, i)? {
+                break;
+            }
+        }
+        let mut text = [0u8; 1024];
+        let listed = report_text::list_report(&self.held, &mut text);
+        self.show(listed, &text)
     }
 }
 
 fn main(rt: HostRuntime) {
-    let mut output = rt.stdout();
-    let mut errors = rt.stderr();
-    let mut held = [0u8; 96];
-    for i in 1..usize::MAX {
-        match feed_argument(&rt, &mut output, &mut errors, &mut held, i) {
-            Argument::Fed => (),
-            Argument::Failed => return,
-            Argument::NotPresent => break,
-        }
-    }
-    show_report(&mut output, &mut errors, &held);
+    let mut feeder = Feeder {
+        output: &mut rt.stdout(),
+        errors: &mut rt.stderr(),
+        held: [0; 96],
+    };
+    let _ = feeder.run(&rt);
 }

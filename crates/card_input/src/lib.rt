@@ -6,23 +6,31 @@ ghost use Rattle.std.specs.Io.KnownBytes.{Consumes, IsAtEnd};
 ghost use Rattle.io.specs.Counts.{IsPrefixLen};
 ghost use Rattle.std.specs.IoError.{error_kind};
 ghost use Rattle.std.specs.declared.io.ErrorKind.TheVariants.{Interrupted, InvalidFilename};
-ghost use Rattle.card_input.specs.declared.State.TheVariants.{Going, Ended, Failed};
+ghost use Rattle.card_input.specs.declared.State.TheVariants.{Ended, Failed};
 
 use std::io::{Error, ErrorKind, Read, Write};
 
-// Whether the file may have more, has ended, or could not be read, and why not.
+// Why the rest of a file could not be read, and how many of its bytes stand at the start of the buffer.
 #[derive(Clone, Copy)]
-pub enum State {
+pub struct ReadFailed {
+    pub bytes: usize,
+    pub error: Error,
+}
+
+// Whether the file may have more, has ended, or could not be read, and why not.
+// Kept: no plainer: one read has these three outcomes, each with its count of bytes, and a Result of an Option would say the count three times.
+#[derive(Clone, Copy)]
+enum State {
     Going,
     Ended,
     Failed(Error),
 }
 
-// How many bytes of the file stand at the start of the buffer.
+// After one read: how many bytes of the file stand at the start of the buffer.
 #[derive(Clone, Copy)]
-pub struct Reading {
-    pub bytes: usize,
-    pub state: State,
+struct Reading {
+    bytes: usize,
+    state: State,
 }
 
 // What a read that failed means: a signal cut it before a byte came, and it is done again, or there is no more to be had.
@@ -68,27 +76,35 @@ fn read_on<R: Read>(file: &mut R, card: &mut [u8], from: usize) -> Reading
     }
 }
 
-// The file to its end, or as much of it as the buffer takes. Nothing says that a file ends, so the turns are counted, to a number that no run comes to.
-pub fn read_card<R: Read>(file: &mut R, card: &mut [u8]) -> Reading
-    ensures within { IsPrefixLen result.«bytes» card.new }
-    ensures consumed { Consumes (R.remaining file.old) (R.remaining file.new) (take result.«bytes» card.new) }
-    ensures told { ¬ (result.state ≡ Going) }
-    ensures end { result.state ≡ Ended → result.«bytes» < length card.new → IsAtEnd (R.remaining file.new) }
-    ensures retried { (e : Error) → result.state ≡ Failed e → ¬ (error_kind e ≡ Interrupted) }
+// The file to its end, or as much of it as the buffer takes: how many bytes. Nothing says that a file ends, so the turns are counted, to a number that no run
+// comes to.
+pub fn read_card<R: Read>(file: &mut R, card: &mut [u8]) -> Result<usize, ReadFailed>
+    ensures within { IfOk result (λ n. IsPrefixLen n card.new) }
+    ensures consumed { IfOk result (λ n. Consumes (R.remaining file.old) (R.remaining file.new) (take n card.new)) }
+    ensures end { IfOk result (λ n. n < length card.new → IsAtEnd (R.remaining file.new)) }
+    ensures failed_within { IfErr result (λ e. IsPrefixLen e.«bytes» card.new) }
+    ensures failed_consumed { IfErr result (λ e. Consumes (R.remaining file.old) (R.remaining file.new) (take e.«bytes» card.new)) }
+    ensures retried { IfErr result (λ e. ¬ (error_kind e.error ≡ Interrupted)) }
 {
     let mut bytes = 0;
     for _ in 0..u64::MAX {
         let reading = read_on(file, card, bytes);
-        let state = reading.state;
-        let State::Going = state else {
-            return reading;
-        };
         bytes = reading.bytes;
+        match reading.state {
+            State::Going => {}
+            State::Ended => return Ok(bytes),
+            State::Failed(cause) => {
+                return Err(ReadFailed {
+                    bytes,
+                    error: cause,
+                });
+            }
+        }
     }
-    Reading {
+    Err(ReadFailed {
         bytes,
-        state: State::Failed(Error::from(ErrorKind::TimedOut)),
-    }
+        error: Error::from(ErrorKind::TimedOut),
+    })
 }
 
 // Writes a line: what failed, as the caller names it, and why. Where it cannot be written, nobody is told.

@@ -2,14 +2,13 @@
 // `refused` and the number, and so is a read or a write that fails; then nothing is written, or, where a write fails, perhaps a part.
 #![tactic(auto)]
 
-use card_input::{State, fail, read_card};
-use cutdown_card::Cutdown;
-use listing::Listed;
+use card_input::{fail, read_card};
+use cutdown_card::NotCut;
 use std::io::Write;
 
 fn tell<E: Write>(errors: &mut E, number: u64) {
     let mut line = [0u8; 32];
-    let Listed::Bytes(n) = listing::refused(&mut line, number) else {
+    let Some(n) = listing::refused(&mut line, number) else {
         return;
     };
     let _ = errors.write_all(&line[..n]);
@@ -24,20 +23,17 @@ fn write<O: Write, E: Write>(output: &mut O, errors: &mut E, fresh: &[u8]) {
 fn cut<O: Write, E: Write>(output: &mut O, errors: &mut E, input: &[u8]) {
     let mut fresh = [0u8; 65536];
     match cutdown_card::cut_down(input, &mut fresh) {
-        Cutdown::Written(n) => write(output, errors, &fresh[..n]),
-        Cutdown::Refused(number) => tell(errors, number),
-        Cutdown::NoRoom => (),
+        Ok(n) => write(output, errors, &fresh[..n]),
+        Err(NotCut::Refused(refusal)) => tell(errors, refusal.number()),
+        Err(NotCut::NoRoom) => (),
     }
 }
 
 fn main(rt: HostRuntime) {
     let mut errors = rt.stderr();
     let mut input = [0u8; 65537];
-    let reading = read_card(&mut rt.stdin(), &mut input);
-    let n = reading.bytes;
-    match reading.state {
-        State::Ended => cut(&mut rt.stdout(), &mut errors, &input[..n]),
-        State::Failed(error) => fail(&mut errors, b"cutdown: standard input", error),
-        State::Going => unreachable!(),
+    match read_card(&mut rt.stdin(), &mut input) {
+        Ok(n) => cut(&mut rt.stdout(), &mut errors, &input[..n]),
+        Err(failed) => fail(&mut errors, b"cutdown: standard input", failed.error),
     }
 }

@@ -3,8 +3,7 @@
 // and then nothing is printed, or, where the text itself could not be written, perhaps a part.
 #![tactic(auto)]
 
-use card_input::{State, fail, file_name, name_too_long, read_card};
-use listing::Listed;
+use card_input::{fail, file_name, name_too_long, read_card};
 use std::env::FillError;
 use std::fs;
 use std::io::{Error, Write};
@@ -12,30 +11,29 @@ use std::rt::{Env, Files};
 
 const MAX_INPUT_LEN: usize = 65536;
 
-fn put_log<R: Files>(rt: &R, name: &[u8], log: &[u8]) -> Result<(), Error> {
+// Something failed, which was said on standard error.
+#[derive(Clone, Copy)]
+struct Stopped;
+
+fn stop<E: Write>(errors: &mut E, what: &[u8], error: Error) -> Stopped {
+    fail(errors, what, error);
+    Stopped
+}
+
+fn write_log<R: Files>(rt: &R, name: &[u8], log: &[u8]) -> Result<(), Error> {
     fs::write(rt, file_name(name)?, log)
 }
 
-fn write_log<R: Files, E: Write>(rt: &R, errors: &mut E, name: &[u8], log: &[u8]) -> bool {
-    match put_log(rt, name, log) {
-        Ok(()) => true,
-        Err(error) => {
-            fail(errors, name, error);
-            false
-        }
-    }
-}
-
 // The log to the file that the argument names, if there is one.
-fn keep_log<R: Files + Env, E: Write>(rt: &R, errors: &mut E, log: &[u8]) -> bool {
+fn keep_log<R: Files + Env, E: Write>(rt: &R, errors: &mut E, log: &[u8]) -> Result<(), Stopped> {
     let mut name = [0u8; 4096];
     match rt.arg(1, &mut name) {
-        Ok(n) => write_log(rt, errors, &name[..n], log),
-        Err(FillError::NotPresent) => true,
-        Err(FillError::TooLong) => {
-            fail(errors, b"drive: the log's name", name_too_long());
-            false
-        }
+        Ok(n) => match write_log(rt, &name[..n], log) {
+            Ok(()) => Ok(()),
+            Err(error) => Err(stop(errors, &name[..n], error)),
+        },
+        Err(FillError::NotPresent) => Ok(()),
+        Err(FillError::TooLong) => Err(stop(errors, b"drive: the log's name", name_too_long())),
     }
 }
 
@@ -47,14 +45,13 @@ fn print<R: Files + Env, O: Write, E: Write>(
     text: &[u8],
     log: &[u8],
     input_len: usize,
-) {
+) -> Result<(), Stopped> {
     if input_len <= MAX_INPUT_LEN {
-        if !keep_log(rt, errors, log) {
-            return;
-        }
+        keep_log(rt, errors, log)?;
     }
-    if let Err(error) = output.write_all(text) {
-        fail(errors, b"drive: standard output", error);
+    match output.write_all(text) {
+        Ok(()) => Ok(()),
+        Err(error) => Err(stop(errors, b"drive: standard output", error)),
     }
 }
 
@@ -66,21 +63,18 @@ fn show<R: Files + Env, O: Write, E: Write>(
     log: &mut [u8; 65536],
 ) {
     let mut text = [0u8; 247570];
-    let Listed::Bytes(n) = drive_text::drive(input, log, &mut text) else {
+    let Some(n) = drive_text::drive(input, log, &mut text) else {
         return;
     };
-    print(rt, output, errors, &text[..n], log, input.len());
+    let _ = print(rt, output, errors, &text[..n], log, input.len());
 }
 
 fn main(rt: HostRuntime) {
     let mut errors = rt.stderr();
     let mut input = [0u8; 65537];
     let mut log = [0u8; 65536];
-    let reading = read_card(&mut rt.stdin(), &mut input);
-    let n = reading.bytes;
-    match reading.state {
-        State::Ended => show(&rt, &mut rt.stdout(), &mut errors, &input[..n], &mut log),
-        State::Failed(error) => fail(&mut errors, b"drive: standard input", error),
-        State::Going => unreachable!(),
+    match read_card(&mut rt.stdin(), &mut input) {
+        Ok(n) => show(&rt, &mut rt.stdout(), &mut errors, &input[..n], &mut log),
+        Err(failed) => fail(&mut errors, b"drive: standard input", failed.error),
     }
 }

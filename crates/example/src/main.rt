@@ -2,265 +2,251 @@
 // held. All memory is the caller's: the log, the scratch, and the queue memory.
 #![tactic(auto)]
 
-use multi_record_log::{
-    AtPosition, Called, CopyAnswer, Lower, QuestionAnswer, ReplayAnswer, Upper,
-};
+use multi_record_log::{AtPosition, Called, CopyAnswer, QuestionAnswer, ReplayAnswer};
+use std::io;
+use std::ops::Bound;
 
-fn text(s: &[u8]) {
-    io::write_all(1, s);
+// The log, where it is written on, and the scratch.
+#[derive(Drop)]
+struct Log {
+    bytes: [u8; 32768],
+    write_position: usize,
+    scratch: [u8; 256],
 }
 
-fn say(what: &[u8], n: u64) {
-    io::write_all(1, what);
-    io::print_decimal(1, n);
+// The queue memory.
+#[derive(Drop)]
+struct Queues {
+    names: [u8; 64],
+    payloads: [u8; 1024],
+    entries: [u8; 192],
+    largest: [u8; 64],
+    table: [u8; 56],
+}
+
+impl Log {
+    fn new() -> Log {
+        Log {
+            bytes: [0; 32768],
+            write_position: 0,
+            scratch: [0; 256],
+        }
+    }
+
+    // A queue.
+    fn create(&mut self, queues: &mut Queues) -> Called {
+        multi_record_log::create(
+            &mut self.bytes,
+            &mut self.write_position,
+            &mut self.scratch,
+            &mut queues.names,
+            &mut queues.payloads,
+            &mut queues.entries,
+            &mut queues.largest,
+            &mut queues.table,
+            b"rings",
+        )
+    }
+
+    // Two records in it, from position 7 on.
+    fn append(&mut self, queues: &mut Queues) -> Called {
+        multi_record_log::append(
+            &mut self.bytes,
+            &mut self.write_position,
+            &mut self.scratch,
+            &mut queues.names,
+            &mut queues.payloads,
+            &mut queues.entries,
+            &mut queues.largest,
+            &mut queues.table,
+            b"rings",
+            AtPosition::Named(7),
+            b"ring 7ring 8 x",
+            &[6, 8],
+        )
+    }
+
+    // The first record evicted.
+    fn truncate(&mut self, queues: &mut Queues) -> Called {
+        multi_record_log::truncate(
+            &mut self.bytes,
+            &mut self.write_position,
+            &mut self.scratch,
+            &mut queues.names,
+            &mut queues.payloads,
+            &mut queues.entries,
+            &mut queues.largest,
+            &mut queues.table,
+            b"rings",
+            7,
+        )
+    }
+
+    // What the queues hold, as this log.
+    fn copy_of(&mut self, queues: &Queues) -> CopyAnswer {
+        multi_record_log::copy(
+            &mut self.bytes,
+            &mut self.scratch,
+            &queues.names,
+            &queues.payloads,
+            &queues.entries,
+            &queues.largest,
+            &queues.table,
+        )
+    }
+
+    // The queues of the log; writing goes on where replay resumes.
+    fn replay(&mut self, queues: &mut Queues) -> ReplayAnswer {
+        let answer = multi_record_log::replay(
+            &self.bytes,
+            &mut self.scratch,
+            &mut queues.names,
+            &mut queues.payloads,
+            &mut queues.entries,
+            &mut queues.largest,
+            &mut queues.table,
+        );
+        if let ReplayAnswer::Replayed { resumed, .. } = answer {
+            self.write_position = resumed;
+        }
+        answer
+    }
+}
+
+impl Queues {
+    fn new() -> Queues {
+        Queues {
+            names: [0; 64],
+            payloads: [0; 1024],
+            entries: [0; 192],
+            largest: [0; 64],
+            table: [0; 56],
+        }
+    }
+
+    fn positions(&self) -> QuestionAnswer {
+        multi_record_log::positions(
+            &self.names,
+            &self.payloads,
+            &self.entries,
+            &self.largest,
+            &self.table,
+            b"rings",
+        )
+    }
+
+    // The first record.
+    fn first(&self) -> QuestionAnswer {
+        multi_record_log::range(
+            &self.names,
+            &self.payloads,
+            &self.entries,
+            &self.largest,
+            &self.table,
+            b"rings",
+            Bound::Unbounded,
+            Bound::Unbounded,
+        )
+    }
+
+    // The largest payload.
+    fn largest(&self) -> QuestionAnswer {
+        multi_record_log::largest(
+            &self.names,
+            &self.payloads,
+            &self.entries,
+            &self.largest,
+            &self.table,
+            b"rings",
+        )
+    }
+
+    // The payload of a record, which a range question answers as a part of the payload memory.
+    fn payload(&self, start: usize, length: usize) -> Option<&[u8]> {
+        self.payloads.get(start..)?.get(..length)
+    }
 }
 
 // What a call that writes answered: the bytes of its frames and of the padding before them.
-fn tell_call(what: &[u8], answer: Called) {
-    text(what);
+fn tell_call(rt: &impl Print, what: &str, answer: Called) -> io::Result<()> {
     match answer {
         Called::Done {
-            last: _,
-            evicted: _,
             frame_bytes,
             padding_bytes,
-        } => {
-            say(b": bytes ", frame_bytes as u64);
-            say(b" + ", padding_bytes as u64);
-        }
-        Called::Refused(number) => say(b": refused ", number),
+            ..
+        } => println!(rt; "{what}: bytes {frame_bytes} + {padding_bytes}"),
+        Called::Refused(number) => println!(rt; "{what}: refused {number}"),
     }
-    text(b"\n");
 }
 
-// The part of the payload memory that a range question answered.
-fn tell_payload(payloads: &[u8], start: usize, length: usize) {
-    if payloads.len() < start {
-        return;
-    }
-    if payloads.len() - start < length {
-        return;
-    }
-    let end = start + length;
-    text(b" '");
-    text(&payloads[start..end]);
-    text(b"'");
-}
-
-fn tell_answer(what: &[u8], payloads: &[u8], answer: QuestionAnswer) {
-    text(what);
+fn tell_answer(
+    rt: &impl Print,
+    what: &str,
+    queues: &Queues,
+    answer: QuestionAnswer,
+) -> io::Result<()> {
+    print!(rt; "{what}")?;
     match answer {
-        QuestionAnswer::Positions { start, next } => {
-            say(b" from ", start);
-            say(b" to ", next);
-        }
+        QuestionAnswer::Positions { start, next } => println!(rt; " from {start} to {next}"),
         QuestionAnswer::Record {
             position,
             start,
             length,
         } => {
-            say(b" ", position);
-            tell_payload(payloads, start, length);
+            print!(rt; " {position}")?;
+            if let Some(payload) = queues.payload(start, length) {
+                rt.write_all(b" '")?;
+                rt.write_all(payload)?;
+                rt.write_all(b"'")?;
+            }
+            println!(rt; "")
         }
         QuestionAnswer::Largest { length, position } => {
-            say(b" ", length as u64);
-            say(b" bytes, at ", position);
+            println!(rt; " {length} bytes, at {position}")
         }
-        QuestionAnswer::Nothing => text(b" none"),
-        QuestionAnswer::Refused(number) => say(b" refused ", number),
+        QuestionAnswer::Nothing => println!(rt; " none"),
+        QuestionAnswer::Refused(number) => println!(rt; " refused {number}"),
     }
-    text(b"\n");
-}
-
-// Replay; writing goes on where it resumes.
-fn tell_replay(answer: ReplayAnswer, write_position: &mut usize) {
-    match answer {
-        ReplayAnswer::Replayed {
-            lost: _,
-            lost_bytes,
-            resumed,
-        } => {
-            say(b"open: lost bytes ", lost_bytes as u64);
-            say(b", resumed ", resumed as u64);
-            *write_position = resumed;
-        }
-        ReplayAnswer::Refused(number) => say(b"open: refused ", number),
-    }
-    text(b"\n");
-}
-
-fn tell_copy(answer: CopyAnswer) {
-    match answer {
-        CopyAnswer::Copied(end) => say(b"copy: bytes ", end as u64),
-        CopyAnswer::Refused(number) => say(b"copy: refused ", number),
-    }
-    text(b"\n");
-}
-
-// A queue.
-fn create(
-    log: &mut [u8],
-    write_position: &mut usize,
-    scratch: &mut [u8],
-    names: &mut [u8],
-    payloads: &mut [u8],
-    entries: &mut [u8],
-    largest: &mut [u8],
-    table: &mut [u8],
-) {
-    let created = multi_record_log::create(
-        log,
-        write_position,
-        scratch,
-        names,
-        payloads,
-        entries,
-        largest,
-        table,
-        b"rings",
-    );
-    tell_call(b"create", created);
-}
-
-// Two records in it, from position 7 on.
-fn append(
-    log: &mut [u8],
-    write_position: &mut usize,
-    scratch: &mut [u8],
-    names: &mut [u8],
-    payloads: &mut [u8],
-    entries: &mut [u8],
-    largest: &mut [u8],
-    table: &mut [u8],
-) {
-    let lens: [u64; 2] = [6, 8];
-    let appended = multi_record_log::append(
-        log,
-        write_position,
-        scratch,
-        names,
-        payloads,
-        entries,
-        largest,
-        table,
-        b"rings",
-        AtPosition::Named(7),
-        b"ring 7ring 8 x",
-        &lens,
-    );
-    tell_call(b"append", appended);
 }
 
 // What the queue holds.
-fn ask(names: &[u8], payloads: &[u8], entries: &[u8], largest: &[u8], table: &[u8]) {
-    let held = multi_record_log::positions(names, payloads, entries, largest, table, b"rings");
-    tell_answer(b"positions", payloads, held);
-    let first = multi_record_log::range(
-        names,
-        payloads,
-        entries,
-        largest,
-        table,
-        b"rings",
-        Lower::Unbounded,
-        Upper::Unbounded,
-    );
-    tell_answer(b"first", payloads, first);
-    let most = multi_record_log::largest(names, payloads, entries, largest, table, b"rings");
-    tell_answer(b"largest", payloads, most);
+fn tell_queue(rt: &impl Print, queues: &Queues) -> io::Result<()> {
+    tell_answer(rt, "positions", queues, queues.positions())?;
+    tell_answer(rt, "first", queues, queues.first())?;
+    tell_answer(rt, "largest", queues, queues.largest())
 }
 
 // The queues of the log, in other memory.
-fn open(log: &[u8], write_position: &mut usize) {
-    let mut scratch = [0u8; 256];
-    let mut names = [0u8; 64];
-    let mut payloads = [0u8; 1024];
-    let mut entries = [0u8; 192];
-    let mut largest = [0u8; 64];
-    let mut table = [0u8; 56];
-    let answer = multi_record_log::replay(
-        log,
-        &mut scratch,
-        &mut names,
-        &mut payloads,
-        &mut entries,
-        &mut largest,
-        &mut table,
-    );
-    tell_replay(answer, write_position);
-    ask(&names, &payloads, &entries, &largest, &table);
+fn open(rt: &impl Print, log: &mut Log) -> io::Result<()> {
+    let mut queues = Queues::new();
+    match log.replay(&mut queues) {
+        ReplayAnswer::Replayed {
+            lost_bytes,
+            resumed,
+            ..
+        } => println!(rt; "open: lost bytes {lost_bytes}, resumed {resumed}")?,
+        ReplayAnswer::Refused(number) => println!(rt; "open: refused {number}")?,
+    }
+    tell_queue(rt, &queues)
 }
 
 // The first record evicted, and the rest in a fresh log.
-fn cut_down(
-    log: &mut [u8],
-    write_position: &mut usize,
-    scratch: &mut [u8],
-    names: &mut [u8],
-    payloads: &mut [u8],
-    entries: &mut [u8],
-    largest: &mut [u8],
-    table: &mut [u8],
-) {
-    let mut fresh = [0u8; 32768];
-    let truncated = multi_record_log::truncate(
-        log,
-        write_position,
-        scratch,
-        names,
-        payloads,
-        entries,
-        largest,
-        table,
-        b"rings",
-        7,
-    );
-    tell_call(b"truncate", truncated);
-    tell_copy(multi_record_log::copy(
-        &mut fresh, scratch, names, payloads, entries, largest, table,
-    ));
-    open(&fresh, write_position);
+fn cut_down(rt: &impl Print, log: &mut Log, queues: &mut Queues) -> io::Result<()> {
+    tell_call(rt, "truncate", log.truncate(queues))?;
+    let mut fresh = Log::new();
+    match fresh.copy_of(queues) {
+        CopyAnswer::Copied(end) => println!(rt; "copy: bytes {end}")?,
+        CopyAnswer::Refused(number) => println!(rt; "copy: refused {number}")?,
+    }
+    open(rt, &mut fresh)
 }
 
-fn main() {
-    let mut log = [0u8; 32768];
-    let mut write_position: usize = 0;
-    let mut scratch = [0u8; 256];
-    let mut names = [0u8; 64];
-    let mut payloads = [0u8; 1024];
-    let mut entries = [0u8; 192];
-    let mut largest = [0u8; 64];
-    let mut table = [0u8; 56];
-    create(
-        &mut log,
-        &mut write_position,
-        &mut scratch,
-        &mut names,
-        &mut payloads,
-        &mut entries,
-        &mut largest,
-        &mut table,
-    );
-    append(
-        &mut log,
-        &mut write_position,
-        &mut scratch,
-        &mut names,
-        &mut payloads,
-        &mut entries,
-        &mut largest,
-        &mut table,
-    );
-    ask(&names, &payloads, &entries, &largest, &table);
-    open(&log, &mut write_position);
-    cut_down(
-        &mut log,
-        &mut write_position,
-        &mut scratch,
-        &mut names,
-        &mut payloads,
-        &mut entries,
-        &mut largest,
-        &mut table,
-    );
+fn main(rt: HostRuntime) -> io::Result<()> {
+    let mut log = Log::new();
+    let mut queues = Queues::new();
+    tell_call(&rt, "create", log.create(&mut queues))?;
+    tell_call(&rt, "append", log.append(&mut queues))?;
+    tell_queue(&rt, &queues)?;
+    open(&rt, &mut log)?;
+    cut_down(&rt, &mut log, &mut queues)
 }

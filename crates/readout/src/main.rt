@@ -2,13 +2,12 @@
 // that fails is said on standard error, and where the input could not be read to its end nothing is listed.
 #![tactic(auto)]
 
-use card_input::{State, fail, read_card};
-use listing::Listed;
+use card_input::{fail, read_card};
 use std::io::Write;
 
 fn show<O: Write, E: Write>(output: &mut O, errors: &mut E, input: &[u8]) {
     let mut text = [0u8; 420235];
-    let Listed::Bytes(n) = readout_text::list_card(input, &mut text) else {
+    let Some(n) = readout_text::list_card(input, &mut text) else {
         return;
     };
     if let Err(error) = output.write_all(&text[..n]) {
@@ -19,11 +18,8 @@ fn show<O: Write, E: Write>(output: &mut O, errors: &mut E, input: &[u8]) {
 fn main(rt: HostRuntime) {
     let mut errors = rt.stderr();
     let mut input = [0u8; 65537];
-    let reading = read_card(&mut rt.stdin(), &mut input);
-    let n = reading.bytes;
-    match reading.state {
-        State::Ended => show(&mut rt.stdout(), &mut errors, &input[..n]),
-        State::Failed(error) => fail(&mut errors, b"readout: standard input", error),
-        State::Going => unreachable!(),
+    match read_card(&mut rt.stdin(), &mut input) {
+        Ok(n) => show(&mut rt.stdout(), &mut errors, &input[..n]),
+        Err(failed) => fail(&mut errors, b"readout: standard input", failed.error),
     }
 }

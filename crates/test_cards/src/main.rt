@@ -2,54 +2,44 @@
 // stored, three bytes each, the low one first, then these bytes; zeros follow them up to the card's length.
 #![tactic(auto)]
 
-use listing::Listed;
+use std::alloc::Global;
+use std::io::Read;
 
 fn list(card: &[u8]) {
     let mut out = [0u8; 420235];
-    let Listed::Bytes(n) = readout_text::list_card(card, &mut out) else {
+    let Some(n) = readout_text::list_card(card, &mut out) else {
         return;
     };
     io::write_all(1, &out[..n]);
 }
 
 fn length(low: u8, middle: u8, high: u8) -> usize {
-    low as usize + 256 * (middle as usize) + 65536 * (high as usize)
-}
-
-// The stored bytes of a card and zeros after them, then its listing.
-fn list_stored(card: &mut [u8], len: usize, stored: usize) -> bool {
-    if card.len() < len {
-        return false;
-    }
-    if len < stored {
-        return false;
-    }
-    slices::zero_at(card, 0, card.len());
-    io::read_full(0, &mut card[..stored]);
-    list(&card[..len]);
-    io::write_all(1, b"\n");
-    true
+    u32::from_le_bytes([low, middle, high, 0]) as usize
 }
 
 // The next card, where there is one.
-fn list_next() -> bool {
-    let mut card = [0u8; 65537];
+fn next_card(alloc: Global, input: &mut impl Read) -> std::io::Result<Option<Vec<u8>>> {
     let mut head = [0u8; 6];
-    let n = io::read_full(0, &mut head);
-    if n < 6 {
-        return false;
+    if input.read_exact(&mut head).is_err() {
+        return Ok(None);
     }
-    let len = length(head[0], head[1], head[2]);
-    let stored = length(head[3], head[4], head[5]);
-    list_stored(&mut card, len, stored)
+    let [a, b, c, d, e, f] = head;
+    let mut card = vec![in alloc; 0u8; length(a, b, c)]?;
+    let Some(stored) = card.get_mut(..length(d, e, f)) else {
+        return Ok(None);
+    };
+    input.read_exact(stored)?;
+    Ok(Some(card))
 }
 
-fn main() {
-    let mut left: usize = 1000;
-    while 0 < left {
-        if !list_next() {
-            return;
-        }
-        left -= 1;
+fn main(rt: HostRuntime) -> std::io::Result<()> {
+    let mut input = rt.stdin();
+    for _ in 0..1000 {
+        let Some(card) = next_card(rt.alloc(), &mut input)? else {
+            break;
+        };
+        list(card.as_slice());
+        io::write_all(1, b"\n");
     }
+    Ok(())
 }

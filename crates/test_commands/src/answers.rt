@@ -1,4 +1,5 @@
 // What is answered, as text on standard output.
+use crate::command::Write;
 use multi_record_log::{Called, Last, ReplayAnswer};
 
 pub fn text(s: &[u8]) {
@@ -7,7 +8,7 @@ pub fn text(s: &[u8]) {
 
 // A word, and a number after it.
 pub fn say(what: &[u8], n: u64) {
-    io::write_all(1, what);
+    text(what);
     io::print_decimal(1, n);
 }
 
@@ -15,16 +16,12 @@ pub fn refused(n: u64) {
     say(b" refused ", n);
 }
 
-fn crc(s: &[u8]) -> u32 {
-    if s.len() == 0 {
-        return 0;
-    }
-    crc32_frame::checksum(s[0], &s[1..])
-}
-
 // The CRC-32 of some bytes, as a number.
 pub fn sum(s: &[u8]) -> u64 {
-    crc(s) as u64
+    match s.split_first() {
+        Some((first, rest)) => u64::from(crc32_frame::checksum(*first, rest)),
+        None => 0,
+    }
 }
 
 pub fn say_crc(what: &[u8], s: &[u8]) {
@@ -40,14 +37,10 @@ pub fn say_bytes(what: &[u8], s: &[u8]) {
 
 // Those of a part.
 pub fn say_part(what: &[u8], s: &[u8], start: usize, len: usize) {
-    if s.len() < start {
-        return;
+    let part = s.get(start..).and_then(|rest| rest.get(..len));
+    if let Some(part) = part {
+        say_bytes(what, part);
     }
-    if s.len() - start < len {
-        return;
-    }
-    let end = start + len;
-    say_bytes(what, &s[start..end]);
 }
 
 // A record: its position, length and CRC-32.
@@ -58,79 +51,54 @@ pub fn say_record(s: &[u8], position: u64, start: usize, len: usize) {
 
 // The bytes written: both counts, frame bytes + padding bytes, or their sum.
 fn say_written(what: &[u8], frame_bytes: usize, padding_bytes: usize, both: bool) {
-    let frames = frame_bytes as u64;
-    let padding = padding_bytes as u64;
     if both {
-        say(what, frames);
-        say(b" + ", padding);
+        say(what, frame_bytes as u64);
+        say(b" + ", padding_bytes as u64);
     } else {
-        say(what, std::num::wrapping_add_u64(frames, padding));
+        say(what, frame_bytes.wrapping_add(padding_bytes) as u64);
     }
 }
 
-// What a create or a delete answers: the bytes written.
-pub fn done(what: &[u8], answer: Called, both: bool) {
-    match answer {
-        Called::Done {
-            last: _,
-            evicted: _,
-            frame_bytes,
-            padding_bytes,
-        } => say_written(what, frame_bytes, padding_bytes, both),
-        Called::Refused(n) => refused(n),
-    }
-}
-
-pub fn truncated(answer: Called, both: bool) {
-    match answer {
-        Called::Done {
-            last: _,
-            evicted,
-            frame_bytes,
-            padding_bytes,
-        } => {
+// What a call answered: first what it says beside the bytes written, then these. Of an empty append they are said only where both counts are asked for.
+pub fn called(write: Write, answer: Called, both: bool) {
+    let Called::Done {
+        last,
+        evicted,
+        frame_bytes,
+        padding_bytes,
+    } = answer
+    else {
+        if let Called::Refused(n) = answer {
+            refused(n);
+        }
+        return;
+    };
+    let what: &[u8] = match (write, last) {
+        (Write::Create, _) => b" created ",
+        (Write::Delete, _) => b" deleted ",
+        (Write::Mark, _) => b" marked ",
+        (Write::Truncate, _) => {
             say(b" evicted ", evicted as u64);
-            say_written(b" bytes ", frame_bytes, padding_bytes, both);
+            b" bytes "
         }
-        Called::Refused(n) => refused(n),
-    }
-}
-
-// The empty answer has counts too: they are printed with both.
-fn say_last(last: Last, frame_bytes: usize, padding_bytes: usize, both: bool) {
-    match last {
-        Last::At(position) => {
+        (Write::Append, Last::At(position)) => {
             say(b" last ", position);
-            say_written(b" bytes ", frame_bytes, padding_bytes, both);
+            b" bytes "
         }
-        Last::Nowhere => {
+        (Write::Append, Last::Nowhere) => {
             text(b" empty");
-            if both {
-                say_written(b" ", frame_bytes, padding_bytes, both);
+            if !both {
+                return;
             }
+            b" "
         }
-    }
-}
-
-pub fn appended(answer: Called, both: bool) {
-    match answer {
-        Called::Done {
-            last,
-            evicted: _,
-            frame_bytes,
-            padding_bytes,
-        } => say_last(last, frame_bytes, padding_bytes, both),
-        Called::Refused(n) => refused(n),
-    }
+    };
+    say_written(what, frame_bytes, padding_bytes, both);
 }
 
 pub fn replayed(answer: ReplayAnswer, queues: u64) {
     match answer {
-        ReplayAnswer::Replayed {
-            lost,
-            lost_bytes: _,
-            resumed,
-        } => {
+        ReplayAnswer::Replayed { lost, resumed, .. } => {
             say(b" lost ", lost);
             say(b" resumed ", resumed as u64);
         }

@@ -1,22 +1,7 @@
-// The bytes that a word stands for, runs of bytes, and parts of memory.
+// The bytes that a word stands for, and runs of bytes.
 ghost use Rattle.std.specs.Prelude.{◌<◌, ◌≤◌, length};
-ghost use Rattle.io.specs.Counts.{IsPrefixLen};
 
-use crate::words::{decimal, first, next, place_of};
-
-// This many bytes of a slice, or all of it where it has fewer.
-pub fn part(n: u64, s: &[u8]) -> usize
-    ensures { IsPrefixLen result s.now }
-{
-    let len = s.len();
-    if n < len as u64 { n as usize } else { len }
-}
-
-fn least(a: usize, b: usize) -> usize
-    ensures { (result ≤ a) × (result ≤ b) }
-{
-    if a < b { a } else { b }
-}
+use crate::line::{decimal, split_once};
 
 fn hex_digit(byte: u8) -> u8
     ensures { result < 16 }
@@ -28,100 +13,66 @@ fn hex_digit(byte: u8) -> u8
     }
 }
 
-fn hex_byte(high: u8, low: u8) -> u8 {
-    16 * hex_digit(high) + hex_digit(low)
-}
-
-// Each of these stores bytes at the start of the buffer, as many as it holds, and answers how many.
-fn from_hex(word: &[u8], out: &mut [u8]) -> usize {
-    let n = least(word.len() / 2, out.len());
-    let mut i = 0;
-    while i < n {
-        out[i] = hex_byte(word[2 * i], word[2 * i + 1]);
-        i += 1;
+// Stores bytes at the start of the buffer, as many as it holds, and answers how many.
+fn from_hex(digits: &[u8], out: &mut [u8]) -> usize
+    ensures { result ≤ length out.old }
+{
+    let n = (digits.len() / 2).min(out.len());
+    for (byte, pair) in out.iter_mut().zip(digits.chunks_exact(2)) {
+        if let [high, low] = pair {
+            *byte = 16 * hex_digit(*high) + hex_digit(*low);
+        }
     }
     n
 }
 
-fn from_text(word: &[u8], out: &mut [u8]) -> usize {
-    let n = least(word.len(), out.len());
-    let mut i = 0;
-    while i < n {
-        out[i] = word[i];
-        i += 1;
-    }
+// The same.
+fn from_text(text: &[u8], out: &mut [u8]) -> usize
+    ensures { result ≤ length out.old }
+{
+    let n = text.len().min(out.len());
+    out[..n].copy_from_slice(&text[..n]);
     n
 }
 
-fn is_hex(first: u8, second: u8) -> bool {
-    first == b'0' && second == b'x'
-}
-
-fn unit_of(word: &[u8], out: &mut [u8]) -> usize {
-    if slices::same(word, b"-") {
-        return 0;
+// Stores what a word without a star stands for, as far as the buffer holds it, and answers how many bytes.
+fn store(word: &[u8], out: &mut [u8]) -> usize
+    ensures { result ≤ length out.old }
+{
+    match word {
+        b"-" => 0,
+        [b'0', b'x', digits @ ..] => from_hex(digits, out),
+        _ => from_text(word, out),
     }
-    if word.len() < 2 {
-        return from_text(word, out);
-    }
-    if is_hex(word[0], word[1]) {
-        return from_hex(&word[2..], out);
-    }
-    from_text(word, out)
 }
 
 // The first `unit` bytes again and again, up to a place.
-fn repeat(out: &mut [u8], unit: usize, end: usize) -> usize {
-    let n = least(end, out.len());
-    let mut i = unit;
-    while i < n {
+fn repeat(out: &mut [u8], unit: usize, end: usize) -> usize
+    ensures { result ≤ length out.old }
+{
+    let end = end.min(out.len());
+    for i in unit..end {
         out[i] = out[i - unit];
-        i += 1;
     }
-    n
+    end
 }
 
-fn bytes_of(word: &[u8], out: &mut [u8]) -> usize {
-    let star = place_of(word, 0, b'*');
-    let unit = unit_of(&word[0..star], out);
-    if star == word.len() {
-        return unit;
-    }
-    repeat(out, unit, decimal(&word[star..]) as usize)
-}
-
-// The bytes of the word after the command.
-pub fn named(line: &[u8], out: &mut [u8]) -> usize {
-    let word = next(line, first(line));
-    let start = word.start;
-    let end = word.end;
-    if line.len() < end {
-        return 0;
-    }
-    if end < start {
-        return 0;
-    }
-    bytes_of(&line[start..end], out)
+// The bytes that a word stands for, in the buffer.
+pub fn bytes_of<'a>(word: &[u8], out: &'a mut [u8]) -> &'a [u8] {
+    let (unit, times) = split_once(word, b'*');
+    let stored = store(unit, out);
+    let n = match times {
+        Some(digits) => repeat(out, stored, decimal(digits) as usize),
+        None => stored,
+    };
+    &out[..n]
 }
 
 // The run of a seed.
 pub fn fill(s: &mut [u8], seed: u64) {
-    let mut x = seed % 2147483648;
-    let mut i = 0;
-    while i < s.len() {
-        x = (x * 1103515245 + 12345) % 2147483648;
-        s[i] = ((x / 65536) % 256) as u8;
-        i += 1;
+    let mut x = (seed % 2147483648) as u32;
+    for byte in s.iter_mut() {
+        x = x.wrapping_mul(1103515245).wrapping_add(12345) % 2147483648;
+        *byte = (x / 65536 % 256) as u8;
     }
-}
-
-// A word of the table of queues.
-pub fn table_word(table: &[u8], k: usize) -> u64 {
-    if 196 <= k {
-        return 0;
-    }
-    if table.len() < 8 * k + 8 {
-        return 0;
-    }
-    fields::u64_at(table, 8 * k)
 }

@@ -1,99 +1,82 @@
-// What a case starts from, and the log changed.
+// What a case starts from, the log changed, and what a case left.
+ghost use Rattle.std.specs.Prelude.{◌≡◌, length, IfSome};
+
+use crate::answers::{say, say_crc, text};
 use crate::bytes::fill;
-use crate::kinds::{CUT, PUT, XOR};
-use crate::words::number;
+use crate::command::{Change, Set, Show};
+use crate::line::Line;
+use crate::memory::Memory;
 
-pub fn start(log: &mut [u8], at: &mut usize, table: &mut [u8]) {
-    let log_len = log.len();
-    let table_len = table.len();
-    slices::zero_at(log, 0, log_len);
-    slices::zero_at(table, 0, table_len);
-    *at = 0;
-}
-
-pub fn stain(s: &mut [u8]) {
-    let mut i = 0;
-    while i < s.len() {
-        s[i] = 170;
-        i += 1;
+// The number at a place of memory, in 8 bytes, where it has that place.
+fn put_number(s: &mut [u8], place: usize, n: u64) {
+    if place < s.len() / 8 {
+        fields::put_u64(s, 8 * place, n);
     }
 }
 
-pub fn set_queues(table: &mut [u8], line: &[u8]) {
-    if 8 <= table.len() {
-        fields::put_u64(table, 0, number(line, b"queues", 0));
+pub fn do_set(memory: &mut Memory<'_>, set: Set, line: Line<'_>) {
+    match set {
+        Set::Start => {
+            memory.log.fill(0);
+            memory.table.fill(0);
+            *memory.write_position = 0;
+        }
+        Set::Stain => memory.scratch.fill(170),
+        Set::Move => *memory.write_position = line.place(),
+        Set::Keep => put_number(memory.largest, line.place(), line.number_or_0(b"number")),
+        Set::Soil => memory.largest.fill(170),
+        Set::Queues => put_number(memory.table, 0, line.number_or_0(b"queues")),
     }
 }
 
-// A number of the further table set.
-pub fn keep(largest: &mut [u8], line: &[u8]) {
-    let at = place(line);
-    if at < largest.len() / 8 {
-        fields::put_u64(largest, 8 * at, number(line, b"number", 0));
+// So many bytes from a place on, where all of them are there.
+fn part(s: &mut [u8], at: usize, len: usize) -> Option<&mut [u8]>
+    ensures { IfSome result (λ part. length part.now ≡ len) }
+{
+    s.get_mut(at..)?.get_mut(..len)
+}
+
+pub fn do_change(log: &mut [u8], change: Change, bytes: &[u8], line: Line<'_>) {
+    let at = line.place();
+    match change {
+        Change::Xor => {
+            if let Some(byte) = log.get_mut(at) {
+                *byte ^= (line.number_or_0(b"by") % 256) as u8;
+            }
+        }
+        Change::Cut => {
+            if let Some(rest) = log.get_mut(at..) {
+                rest.fill(0);
+            }
+        }
+        Change::Put => {
+            if let Some(place) = part(log, at, bytes.len()) {
+                place.copy_from_slice(bytes);
+            }
+        }
+        Change::Fill => {
+            if let Some(place) = part(log, at, line.number_or_0(b"bytes") as usize) {
+                fill(place, line.number_or_0(b"seed"));
+            }
+        }
     }
 }
 
-fn xor(log: &mut [u8], at: u64, by: u64) {
-    if at < log.len() as u64 {
-        let i = at as usize;
-        log[i] = log[i] ^ ((by % 256) as u8);
-    }
-}
-
-fn cut(log: &mut [u8], at: usize) {
-    if at <= log.len() {
-        let len = log.len() - at;
-        slices::zero_at(log, at, len);
-    }
-}
-
-fn put(log: &mut [u8], at: usize, bytes: &[u8]) {
-    if log.len() < at {
-        return;
-    }
-    if log.len() - at < bytes.len() {
-        return;
-    }
-    slices::copy_at(log, at, bytes);
-}
-
-fn put_run(log: &mut [u8], at: usize, len: usize, seed: u64) {
-    if log.len() < at {
-        return;
-    }
-    if log.len() - at < len {
-        return;
-    }
-    let end = at + len;
-    fill(&mut log[at..end], seed);
-}
-
-pub fn place(line: &[u8]) -> usize {
-    number(line, b"at", 0) as usize
-}
-
-fn said_by(line: &[u8]) -> u64 {
-    number(line, b"by", 0)
-}
-
-fn said_bytes(line: &[u8]) -> usize {
-    number(line, b"bytes", 0) as usize
-}
-
-fn said_seed(line: &[u8]) -> u64 {
-    number(line, b"seed", 0)
-}
-
-// The log changed in that way.
-pub fn change(log: &mut [u8], kind: u8, bytes: &[u8], line: &[u8]) {
-    let at = place(line);
-    if kind == XOR {
-        xor(log, at as u64, said_by(line));
-    } else if kind == CUT {
-        cut(log, at);
-    } else if kind == PUT {
-        put(log, at, bytes);
-    } else {
-        put_run(log, at, said_bytes(line), said_seed(line));
+pub fn do_show(memory: &Memory<'_>, show: Show) {
+    match show {
+        Show::Place => say(b" place ", *memory.write_position as u64),
+        Show::Held => {
+            say(b" queues ", memory.table_word(0));
+            say(b" name bytes ", memory.table_word(1));
+        }
+        Show::Scratch => {
+            if memory.scratch.iter().all(|b| *b == 0) {
+                text(b" zero");
+            }
+        }
+        Show::Log => {
+            say_crc(b" log ", memory.log);
+            text(b"\n");
+        }
     }
 }

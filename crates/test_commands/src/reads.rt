@@ -1,26 +1,19 @@
-// All reads of a log.
-use crate::answers::{refused, say, say_part, say_record, text};
+// Replay, and all reads of a log.
+use crate::answers::{refused, replayed, say, say_part, say_record, text};
+use crate::command::Look;
+use crate::memory::Memory;
+use crate::questions::show_queues;
 use frame::{Corruption, Reader};
+use multi_record_log::ReplayAnswer;
 use read_step::{Lost, ReadAnswer};
-use record::{MultiPlexedRecord, MultiRecord, NextItem};
+use record::{MultiPlexedRecord, MultiRecord};
 
 // The items of an append, item after item.
 fn show_items(s: &[u8], items: MultiRecord) {
     let mut left = items;
-    loop {
-        match record::next_item(s, left) {
-            NextItem::Item {
-                position,
-                start,
-                len,
-                rest,
-            } => {
-                say_record(s, position, start, len);
-                left = rest;
-            }
-            NextItem::End => return,
-            NextItem::Bad => return,
-        }
+    while let Ok(Some(item)) = record::next_item(s, left) {
+        say_record(s, item.position, item.start, item.len);
+        left = item.rest;
     }
 }
 
@@ -63,24 +56,16 @@ fn show_decoded(s: &[u8], r: MultiPlexedRecord) {
             say(b"read mark ", position);
             say_part(b" body ", s, body_start, 8);
         }
-        MultiPlexedRecord::None => {}
     }
 }
 
-fn show_corruption(c: Corruption) {
-    match c {
-        Corruption::WrongChecksum => text(b"read wrong checksum"),
-        Corruption::UnknownType => text(b"read unknown type"),
-        Corruption::PastBlock => text(b"read length past the block"),
-    }
-}
-
-// What was lost.
 fn show_lost(lost: Lost) {
-    match lost {
-        Lost::Frame(c) => show_corruption(c),
-        Lost::NoRecord => text(b"read no record"),
-    }
+    text(match lost {
+        Lost::Frame(Corruption::WrongChecksum) => b"read wrong checksum",
+        Lost::Frame(Corruption::UnknownType) => b"read unknown type",
+        Lost::Frame(Corruption::PastBlock) => b"read length past the block",
+        Lost::NoRecord => b"read no record",
+    });
 }
 
 // An answer. Answers whether reading goes on.
@@ -102,16 +87,35 @@ fn show_read(s: &[u8], answer: ReadAnswer) -> bool {
 }
 
 // All reads up to end of log; a reader gives fewer answers than 4,681 for each block.
-pub fn show_reads(log: &[u8], scratch: &mut [u8]) {
+fn show_reads(memory: &mut Memory<'_>) {
     let mut reader = Reader::new();
-    let mut left: usize = 15000;
-    while 0 < left {
-        let step = multi_record_log::read_from(log, scratch, reader);
-        let answer = step.answer;
-        if !show_read(scratch, answer) {
+    for _ in 0..15000 {
+        let step = memory.read_from(reader);
+        if !show_read(memory.scratch, step.answer) {
             return;
         }
         reader = step.reader;
-        left -= 1;
+    }
+}
+
+// Replay; writing goes on where it resumes.
+fn replay(memory: &mut Memory<'_>) {
+    let answer = memory.replay();
+    replayed(answer, memory.table_word(0));
+    if let ReplayAnswer::Replayed { resumed, .. } = answer {
+        *memory.write_position = resumed;
+    }
+}
+
+pub fn do_look(memory: &mut Memory<'_>, look: Look) {
+    match look {
+        Look::Replay => replay(memory),
+        Look::Reopen => {
+            text(b"replay");
+            replay(memory);
+            text(b"\n");
+            show_queues(memory);
+        }
+        Look::Reads => show_reads(memory),
     }
 }

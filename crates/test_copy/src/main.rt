@@ -5,266 +5,179 @@
 #![tactic(auto)]
 
 use multi_record_log::{CopyAnswer, ReplayAnswer};
+use std::alloc::Global;
+use std::io::{self, Read};
 
-const STDOUT: i32 = 1;
-
-fn text(s: &[u8]) {
-    io::write_all(STDOUT, s);
+// The memory of the queues.
+#[derive(Drop)]
+struct Queues {
+    names: [u8; 98304],
+    payloads: [u8; 98304],
+    entries: [u8; 24576],
+    largest: [u8; 8192],
+    table: [u8; 1568],
 }
 
-fn number(label: &[u8], n: u64) {
-    text(label);
-    io::print_decimal(STDOUT, n);
-}
-
-fn hex(label: &[u8], c: u32) {
-    text(label);
-    io::print_hex(STDOUT, c as u64, 8);
-}
-
-fn sum(label: &[u8], s: &[u8]) {
-    hex(label, crc32::update_all(0xffff_ffff, s) ^ 0xffff_ffff);
-}
-
-fn tell_replay(answer: ReplayAnswer) {
-    match answer {
-        ReplayAnswer::Replayed {
-            lost: _,
-            lost_bytes: _,
-            resumed,
-        } => number(b"replayed to ", resumed as u64),
-        ReplayAnswer::Refused(n) => number(b"replay refused ", n),
-    }
-}
-
-fn tell_copy(answer: CopyAnswer) {
-    match answer {
-        CopyAnswer::Copied(end) => number(b", copied to ", end as u64),
-        CopyAnswer::Refused(n) => number(b", refused ", n),
-    }
-}
-
-// What is left of the target: its whole blocks, and the rest.
-fn tell_target(target: &[u8]) {
-    let whole = target.len() / 32768 * 32768;
-    sum(b", blocks ", &target[0..whole]);
-    sum(b", tail ", &target[whole..]);
-}
-
-// One number that stands for the whole queue memory.
-fn memory_sum(names: &[u8], payloads: &[u8], entries: &[u8], largest: &[u8], table: &[u8]) -> u32 {
-    let a = crc32::update_all(0xffff_ffff, names);
-    let b = crc32::update_all(a, payloads);
-    let c = crc32::update_all(b, entries);
-    let d = crc32::update_all(c, largest);
-    crc32::update_all(d, table)
-}
-
-fn tell_memory(before: u32, after: u32) {
-    if before == after {
-        text(b", queues stay\n");
-    } else {
-        text(b", queues changed\n");
-    }
-}
-
-fn copy_into(
-    target: &mut [u8],
-    scratch: &mut [u8],
-    names: &[u8],
-    payloads: &[u8],
-    entries: &[u8],
-    largest: &[u8],
-    table: &[u8],
-) {
-    tell_copy(multi_record_log::copy(target, scratch, names, payloads, entries, largest, table));
-    tell_target(target);
-    sum(b", scratch ", scratch);
-}
-
-// A copy into the first bytes of a target and of a scratch.
-fn copy_within(
-    target: &mut [u8],
-    scratch: &mut [u8],
-    target_len: usize,
-    scratch_len: usize,
-    names: &[u8],
-    payloads: &[u8],
-    entries: &[u8],
-    largest: &[u8],
-    table: &[u8],
-) {
-    if target.len() < target_len {
-        return;
-    }
-    if scratch.len() < scratch_len {
-        return;
-    }
-    copy_into(
-        &mut target[..target_len],
-        &mut scratch[..scratch_len],
-        names,
-        payloads,
-        entries,
-        largest,
-        table,
-    );
-}
-
-fn copy_sized(
-    target_len: usize,
-    scratch_len: usize,
-    names: &[u8],
-    payloads: &[u8],
-    entries: &[u8],
-    largest: &[u8],
-    table: &[u8],
-) {
-    let mut target = [238u8; 196607];
-    let mut scratch = [90u8; 131072];
-    let before = memory_sum(names, payloads, entries, largest, table);
-    copy_within(
-        &mut target,
-        &mut scratch,
-        target_len,
-        scratch_len,
-        names,
-        payloads,
-        entries,
-        largest,
-        table,
-    );
-    tell_memory(before, memory_sum(names, payloads, entries, largest, table));
-}
-
-fn replay_log(
-    log: &[u8],
-    names: &mut [u8],
-    payloads: &mut [u8],
-    entries: &mut [u8],
-    largest: &mut [u8],
-    table: &mut [u8],
-) {
-    let mut scratch = [0u8; 131072];
-    tell_replay(multi_record_log::replay(
-        log,
-        &mut scratch,
-        names,
-        payloads,
-        entries,
-        largest,
-        table,
-    ));
-}
-
-// The byte at a place from 1 on; 0 is none.
-fn spoil(table: &mut [u8], place: usize, value: u8) {
-    if 0 < place {
-        if place <= table.len() {
-            table[place - 1] = value;
-        }
-    }
-}
-
-// The queues of the log, the byte put into the table, and the copy.
-fn copy_log(log: &[u8], target_len: usize, scratch_len: usize, place: usize, value: u8) {
-    let mut names = [0u8; 98304];
-    let mut payloads = [0u8; 98304];
-    let mut entries = [0u8; 24576];
-    let mut largest = [0u8; 8192];
-    let mut table = [0u8; 1568];
-    replay_log(
-        log,
-        &mut names,
-        &mut payloads,
-        &mut entries,
-        &mut largest,
-        &mut table,
-    );
-    spoil(&mut table, place, value);
-    copy_sized(
-        target_len,
-        scratch_len,
-        &names,
-        &payloads,
-        &entries,
-        &largest,
-        &table,
-    );
-}
-
-fn length(low: u8, middle: u8, high: u8) -> usize {
-    low as usize + 256 * (middle as usize) + 65536 * (high as usize)
-}
-
-// The number of three bytes at a place, 0 where there are none.
-fn number_at(head: &[u8], at: usize) -> usize {
-    if head.len() < 3 {
-        return 0;
-    }
-    if head.len() - 3 < at {
-        return 0;
-    }
-    length(head[at], head[at + 1], head[at + 2])
-}
-
-// The stored bytes of a log, zeros after them, and the copy.
-fn copy_stored(
-    log: &mut [u8],
-    len: usize,
-    stored: usize,
+// What a case says beside its log: its title, how long the target and the scratch are, and the byte that is put into the table, at a place from 1 on.
+#[derive(Clone, Copy)]
+struct Case {
+    title: [u8; 32],
     target_len: usize,
     scratch_len: usize,
     place: usize,
     value: u8,
-) -> bool {
-    if log.len() < len {
-        return false;
-    }
-    if len < stored {
-        return false;
-    }
-    io::read_full(0, &mut log[..stored]);
-    copy_log(&log[..len], target_len, scratch_len, place, value);
-    true
 }
 
-fn copy_case(head: &[u8], value: u8) -> bool {
-    let mut log = [0u8; 131072];
-    copy_stored(
-        &mut log,
-        number_at(head, 32),
-        number_at(head, 35),
-        number_at(head, 38),
-        number_at(head, 41),
-        number_at(head, 44),
-        value,
-    )
+fn update(sum: u32, s: &[u8]) -> u32 {
+    crc32::update_all(sum, s)
 }
 
-fn title(head: &[u8]) {
-    if 32 <= head.len() {
-        text(&head[..32]);
+fn crc(s: &[u8]) -> u32 {
+    update(0xffff_ffff, s) ^ 0xffff_ffff
+}
+
+impl Queues {
+    fn replay(&mut self, log: &[u8]) -> ReplayAnswer {
+        multi_record_log::replay(
+            log,
+            &mut [0u8; 131072],
+            &mut self.names,
+            &mut self.payloads,
+            &mut self.entries,
+            &mut self.largest,
+            &mut self.table,
+        )
+    }
+
+    fn copy(&self, target: &mut [u8], scratch: &mut [u8]) -> CopyAnswer {
+        multi_record_log::copy(
+            target,
+            scratch,
+            &self.names,
+            &self.payloads,
+            &self.entries,
+            &self.largest,
+            &self.table,
+        )
+    }
+
+    // One number that stands for the whole memory.
+    fn sum(&self) -> u32 {
+        let sum = update(update(0xffff_ffff, &self.names), &self.payloads);
+        update(
+            update(update(sum, &self.entries), &self.largest),
+            &self.table,
+        )
     }
 }
 
-fn next_case() -> bool {
-    let mut head = [0u8; 48];
-    let n = io::read_full(0, &mut head);
-    if n < 48 {
-        return false;
-    }
-    title(&head);
-    let value = head[47];
-    copy_case(&head, value)
+fn length(low: u8, middle: u8, high: u8) -> usize {
+    u32::from_le_bytes([low, middle, high, 0]) as usize
 }
 
-fn main() {
-    let mut left: usize = 1000;
-    while 0 < left {
-        if !next_case() {
-            return;
+// The number in the next three bytes.
+fn next_length(input: &mut impl Read) -> io::Result<usize> {
+    let mut bytes = [0u8; 3];
+    input.read_exact(&mut bytes)?;
+    let [low, middle, high] = bytes;
+    Ok(length(low, middle, high))
+}
+
+// The log: the bytes that are stored, and zeros after them.
+fn next_log(
+    alloc: Global,
+    input: &mut impl Read,
+    len: usize,
+    stored: usize,
+) -> io::Result<Vec<u8>> {
+    let mut log = vec![in alloc; 0u8; len]?;
+    if let Some(bytes) = log.as_mut_slice().get_mut(..stored) {
+        input.read_exact(bytes)?;
+    }
+    Ok(log)
+}
+
+// The next case and its log; an error where there is none.
+fn next_case(alloc: Global, input: &mut impl Read) -> io::Result<(Case, Vec<u8>)> {
+    let mut title = [0u8; 32];
+    input.read_exact(&mut title)?;
+    let log_len = next_length(input)?;
+    let stored = next_length(input)?;
+    let target_len = next_length(input)?;
+    let scratch_len = next_length(input)?;
+    let place = next_length(input)?;
+    let mut value = [0u8; 1];
+    input.read_exact(&mut value)?;
+    let case = Case {
+        title,
+        target_len,
+        scratch_len,
+        place,
+        value: value[0],
+    };
+    Ok((case, next_log(alloc, input, log_len, stored)?))
+}
+
+fn tell_replay(rt: &impl Print, answer: ReplayAnswer) -> io::Result<()> {
+    match answer {
+        ReplayAnswer::Replayed { resumed, .. } => print!(rt; "replayed to {resumed}"),
+        ReplayAnswer::Refused(n) => print!(rt; "replay refused {n}"),
+    }
+}
+
+fn tell_copy(rt: &impl Print, answer: CopyAnswer) -> io::Result<()> {
+    match answer {
+        CopyAnswer::Copied(end) => print!(rt; ", copied to {end}"),
+        CopyAnswer::Refused(n) => print!(rt; ", refused {n}"),
+    }
+}
+
+// The copy, and what it leaves: the target's whole blocks and what lies after them, the scratch, and the queues.
+fn copy(rt: &(impl Print + AllocGlobal), queues: &Queues, case: Case) -> io::Result<()> {
+    let mut target = vec![in rt.alloc(); 0xeeu8; case.target_len]?;
+    let mut scratch = vec![in rt.alloc(); 0x5au8; case.scratch_len]?;
+    let before = queues.sum();
+    tell_copy(
+        rt,
+        queues.copy(target.as_mut_slice(), scratch.as_mut_slice()),
+    )?;
+    let (blocks, tail) = target.split_at(target.len() / 32768 * 32768);
+    let (blocks, tail, scratch) = (crc(blocks), crc(tail), crc(scratch.as_slice()));
+    print!(rt; ", blocks {blocks:08x}, tail {tail:08x}, scratch {scratch:08x}")?;
+    let kept = if before == queues.sum() {
+        "stay"
+    } else {
+        "changed"
+    };
+    println!(rt; ", queues {kept}")
+}
+
+// The queues of the log, the byte put into their table, and the copy.
+fn run(rt: &(impl Print + AllocGlobal), case: Case, log: &[u8]) -> io::Result<()> {
+    let mut queues = Queues {
+        names: [0; 98304],
+        payloads: [0; 98304],
+        entries: [0; 24576],
+        largest: [0; 8192],
+        table: [0; 1568],
+    };
+    rt.write_all(&case.title)?;
+    tell_replay(rt, queues.replay(log))?;
+    if let Some(index) = case.place.checked_sub(1) {
+        if let Some(byte) = queues.table.get_mut(index) {
+            *byte = case.value;
         }
-        left -= 1;
     }
+    copy(rt, &queues, case)
+}
+
+fn main(rt: HostRuntime) -> io::Result<()> {
+    let mut input = rt.stdin();
+    for _ in 0..1000 {
+        let Ok((case, log)) = next_case(rt.alloc(), &mut input) else {
+            break;
+        };
+        run(&rt, case, log.as_slice())?;
+    }
+    Ok(())
 }

@@ -3,136 +3,65 @@
 // there 0 times ends it.
 #![tactic(auto)]
 
-use listing::{Listed, put_bytes};
+use std::alloc::Global;
+use std::io::Read;
 
-// How often a part stands there, and its length; whether there is one more on standard input.
-#[derive(Clone, Copy)]
-struct Head {
-    there: bool,
-    times: usize,
-    len: usize,
-}
+// A byte more than an input may have at most: what follows is dropped.
+const LONGEST: usize = 65537;
 
-// How many bytes an input has; whether there was one.
-#[derive(Clone, Copy)]
-struct Input {
-    there: bool,
-    len: usize,
-}
-
-fn number(low: u8, high: u8) -> usize {
-    low as usize + 256 * (high as usize)
-}
-
-fn read_head() -> Head {
-    let mut head = [0u8; 4];
-    let n = io::read_full(0, &mut head);
-    Head {
-        there: n == 4,
-        times: number(head[0], head[1]),
-        len: number(head[2], head[3]),
-    }
-}
-
-// A part as often as it stands there. Bytes past the buffer are dropped.
-fn repeat(input: &mut [u8], at: usize, part: &[u8], times: usize) -> usize {
-    let mut p = at;
-    let mut left = times;
-    while 0 < left {
-        p = put_bytes(input, p, part);
-        left -= 1;
-    }
-    p
-}
-
-fn read_part(input: &mut [u8], at: usize, part: &mut [u8], head: Head) -> usize {
-    let len = head.len;
-    if part.len() < len {
-        return at;
-    }
-    io::read_full(0, &mut part[..len]);
-    repeat(input, at, &part[..len], head.times)
-}
-
-fn add_part(input: &mut [u8], at: usize, head: Head) -> usize {
-    let mut part = [0u8; 65536];
-    read_part(input, at, &mut part, head)
-}
-
-fn read_input(input: &mut [u8]) -> Input {
-    let mut at: usize = 0;
-    let mut left: usize = 10000;
-    while 0 < left {
-        let head = read_head();
-        if !head.there {
-            return Input {
-                there: false,
-                len: 0,
-            };
+// The next input, where there is one.
+fn next_input(alloc: Global, stored: &mut impl Read) -> std::io::Result<Option<Vec<u8>>> {
+    let mut input = Vec::new(alloc);
+    for _ in 0..10000 {
+        let mut head = [0u8; 4];
+        if stored.read_exact(&mut head).is_err() {
+            break;
         }
-        if head.times == 0 {
-            return Input {
-                there: true,
-                len: at,
-            };
+        let [a, b, c, d] = head;
+        let times = u16::from_le_bytes([a, b]);
+        if times == 0 {
+            input.truncate(LONGEST);
+            return Ok(Some(input));
         }
-        at = add_part(input, at, head);
-        left -= 1;
+        let len = usize::from(u16::from_le_bytes([c, d]));
+        let mut part = vec![in alloc; 0u8; len]?;
+        stored.read_exact(part.as_mut_slice())?;
+        for _ in 0..times {
+            input.extend_from_slice(part.as_slice())?;
+        }
     }
-    Input {
-        there: false,
-        len: 0,
+    Ok(None)
+}
+
+fn crc(log: &[u8]) -> u32 {
+    match log.split_first() {
+        Some((first, rest)) => crc32_frame::checksum(*first, rest),
+        None => 0,
     }
 }
 
 fn print(text: &[u8], log: &[u8]) {
     io::write_all(1, text);
     io::write_all(1, b"log ");
-    io::print_hex(1, crc(log) as u64, 8);
+    io::print_hex(1, u64::from(crc(log)), 8);
     io::write_all(1, b"\n\n");
-}
-
-fn crc(log: &[u8]) -> u32 {
-    if log.len() == 0 {
-        return 0;
-    }
-    crc32_frame::checksum(log[0], &log[1..])
 }
 
 fn show(input: &[u8], log: &mut [u8; 65536]) {
     let mut out = [0u8; 247570];
-    let Listed::Bytes(n) = drive_text::drive(input, log, &mut out) else {
+    let Some(n) = drive_text::drive(input, log, &mut out) else {
         return;
     };
     print(&out[..n], log);
 }
 
-fn show_read(input: &mut [u8], log: &mut [u8; 65536]) -> bool {
-    let read = read_input(input);
-    if !read.there {
-        return false;
+fn main(rt: HostRuntime) -> std::io::Result<()> {
+    let mut stored = rt.stdin();
+    for _ in 0..1000 {
+        let Some(input) = next_input(rt.alloc(), &mut stored)? else {
+            break;
+        };
+        show(input.as_slice(), &mut [0u8; 65536]);
     }
-    let len = read.len;
-    if input.len() < len {
-        return false;
-    }
-    show(&input[..len], log);
-    true
-}
-
-// The next input, where there is one.
-fn show_next() -> bool {
-    let mut input = [0u8; 65537];
-    let mut log = [0u8; 65536];
-    show_read(&mut input, &mut log)
-}
-
-fn main() {
-    let mut left: usize = 1000;
-    while 0 < left {
-        if !show_next() {
-            return;
-        }
-        left -= 1;
-    }
+    Ok(())
 }

@@ -6,6 +6,8 @@
 ghost use Rattle.std.specs.Prelude.{◌+◌, ◌≤◌, length};
 ghost use Rattle.crc32.specs.Wide.{TableReady};
 
+use std::array;
+
 const STDOUT: i32 = 1;
 
 fn text(s: &[u8]) {
@@ -18,25 +20,11 @@ fn sum(label: &[u8], c: u32) {
     io::print_hex(STDOUT, c as u64, 8);
 }
 
-fn byte(b: u8) {
-    io::print_hex(STDOUT, b as u64, 2);
-}
-
-fn bytes(s: &[u8]) {
-    let mut i = 0;
-    while i < s.len() {
-        byte(s[i]);
-        i += 1;
-    }
-}
-
 // The seven bytes at a place.
 fn header(label: &[u8], log: &[u8], at: usize) {
     text(label);
-    if at <= log.len() {
-        if 7 <= log.len() - at {
-            bytes(&log[at..at + 7]);
-        }
+    for byte in log.iter().skip(at).take(7) {
+        io::print_hex(STDOUT, u64::from(*byte), 2);
     }
 }
 
@@ -82,48 +70,30 @@ fn line(table: &[u32], data: &[u8], n: usize)
 {
     io::print_decimal(STDOUT, n as u64);
     text(b":");
-    if n <= 32761 {
-        if 65522 <= data.len() {
-            full(table, &data[0..n]);
-            split(table, 32761 - n, &data[0..2 * n]);
-            parts(table, data, n);
-        }
+    if n <= 32761 && 65522 <= data.len() {
+        full(table, &data[..n]);
+        split(table, 32761 - n, &data[..2 * n]);
+        parts(table, data, n);
     }
     text(b"\n");
-}
-
-// The numbers from 0 on, 251 of them over and over.
-fn count_up(s: &mut [u8]) {
-    let mut i = 0;
-    while i < s.len() {
-        s[i] = (i % 251) as u8;
-        i += 1;
-    }
 }
 
 fn lines(table: &[u32])
     requires { TableReady table.now }
 {
-    let mut data = [0u8; 65522];
-    count_up(&mut data);
+    // The numbers from 0 on, 251 of them over and over.
+    let data: [u8; 65522] = array::from_fn(|i| (i % 251) as u8);
     let sizes = [
         0usize, 1, 7, 8, 9, 15, 16, 17, 447, 448, 463, 464, 719, 720, 1748, 1749, 3796, 3797, 32761,
     ];
-    let mut i = 0;
-    while i < 19 {
-        line(table, &data, sizes[i]);
-        i += 1;
+    for n in sizes {
+        line(table, &data, n);
     }
 }
 
-fn empty_table() {
-    let table = [0u32; 0];
-    text(b"with an empty table\n");
-    lines(&table);
-}
-
 fn main() {
-    empty_table();
+    text(b"with an empty table\n");
+    lines(&[]);
     let mut table = [0u32; 4096];
     crc32_frame::fill_table(&mut table);
     text(b"with the wide table\n");

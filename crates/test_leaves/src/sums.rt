@@ -2,6 +2,7 @@
 ghost use Rattle.crc32.specs.Wide.{TableReady};
 
 use crate::STDOUT;
+use std::array;
 
 // A label and a checksum in eight hexadecimal digits.
 fn value(label: &[u8], sum: u32) {
@@ -16,7 +17,7 @@ fn framed(table: &[u32], first: u8, rest: &[u8])
     value(b", checksum ", crc32_frame::checksum(first, rest));
     value(
         b", with an empty table ",
-        crc32_frame::checksum_with(&table[0..0], first, rest),
+        crc32_frame::checksum_with(&[], first, rest),
     );
     value(
         b", with the wide table ",
@@ -33,8 +34,8 @@ fn line(table: &[u32], name: &[u8], message: &[u8], expected: u32)
         b", update_all ",
         crc32::update_all(0xffff_ffff, message) ^ 0xffff_ffff,
     );
-    if 0 < message.len() {
-        framed(table, message[0], &message[1..]);
+    if let [first, rest @ ..] = message {
+        framed(table, *first, rest);
     }
     io::write_all(STDOUT, b"\n");
 }
@@ -51,12 +52,8 @@ fn texts(table: &[u32])
 }
 
 // The numbers from 0 on, 251 of them over and over.
-fn count_up(s: &mut [u8]) {
-    let mut i = 0;
-    while i < s.len() {
-        s[i] = (i % 251) as u8;
-        i += 1;
-    }
+fn count_up<const N: usize>() -> [u8; N] {
+    array::from_fn(|i| (i % 251) as u8)
 }
 
 fn runs(table: &[u32])
@@ -64,11 +61,8 @@ fn runs(table: &[u32])
 {
     line(table, b"32 bytes of 00", &[0u8; 32], 0x190a_55ad);
     line(table, b"32 bytes of ff", &[255u8; 32], 0xff6c_ab0b);
-    let mut rising = [0u8; 32];
-    count_up(&mut rising);
-    line(table, b"00 to 1f", &rising, 0x9126_7e8a);
-    let mut long = [0u8; 40000];
-    count_up(&mut long);
+    line(table, b"00 to 1f", &count_up::<32>(), 0x9126_7e8a);
+    let long = count_up::<40000>();
     line(
         table,
         b"40000 bytes, 00 to fa over and over",

@@ -6,8 +6,8 @@ use test_log_text::{clear, count_up, number, put, put_counted, read_into, text};
 
 // One byte of the log changed.
 fn set(log: &mut [u8], at: usize, b: u8) {
-    if at < log.len() {
-        log[at] = b;
+    if let Some(byte) = log.get_mut(at) {
+        *byte = b;
     }
 }
 
@@ -97,13 +97,7 @@ fn zeros_before_a_block(log: &mut [u8], data: &[u8]) {
 
 // Empty records, one after the other. Answers the place after them.
 fn put_empty(log: &mut [u8], data: &[u8], n: usize) -> usize {
-    let mut place: usize = 0;
-    let mut i: usize = 0;
-    while i < n {
-        place = put(log, place, data, 0);
-        i += 1;
-    }
-    place
+    (0..n).fold(0, |place, _| put(log, place, data, 0))
 }
 
 fn most_frames_in(log: &mut [u8], data: &[u8]) {
@@ -122,23 +116,9 @@ fn most_frames(data: &[u8]) {
     most_frames_in(&mut log, data);
 }
 
-// Whether all of s are b.
-fn all_are(s: &[u8], b: u8) -> bool {
-    let mut i = 0;
-    while i < s.len() {
-        if s[i] != b {
-            return false;
-        }
-        i += 1;
-    }
-    true
-}
-
 fn show_tail(log: &[u8]) {
-    if log.len() < 32768 {
-        return;
-    }
-    if all_are(&log[32768..], 170) {
+    let tail = log.get(32768..);
+    if tail.is_some_and(|tail| tail.iter().all(|byte| *byte == 170)) {
         text(b" tail kept");
     }
 }
@@ -155,18 +135,16 @@ fn tail_in(log: &mut [u8], data: &[u8]) {
 
 fn tail(data: &[u8]) {
     let mut log = [170u8; 32868];
-    slices::zero_at(&mut log, 0, 32768);
+    log[..32768].fill(0);
     tail_in(&mut log, data);
 }
 
 // Records of 12 bytes with 8, 7, 6, 1 and 0 bytes left in the block.
 fn two_counts(log: &mut [u8], data: &[u8]) {
     text(b"frame bytes + padding bytes:");
-    put_counted(log, 32760, data, 12);
-    put_counted(log, 32761, data, 12);
-    put_counted(log, 32762, data, 12);
-    put_counted(log, 32767, data, 12);
-    put_counted(log, 32768, data, 12);
+    for place in [32760, 32761, 32762, 32767, 32768] {
+        put_counted(log, place, data, 12);
+    }
     text(b" | 26+0 26+0 19+6 19+1 19+0\n");
 }
 
@@ -196,15 +174,10 @@ fn three_whole_blocks(log: &mut [u8], data: &[u8]) {
     counts(log, data);
 }
 
-fn all(log: &mut [u8], data: &mut [u8]) {
-    count_up(data);
-    three_whole_blocks(log, data);
-    tail(data);
-    most_frames(data);
-}
-
 fn main() {
     let mut data = [0u8; 70000];
-    let mut log = [0u8; 98304];
-    all(&mut log, &mut data);
+    count_up(&mut data);
+    three_whole_blocks(&mut [0u8; 98304], &data);
+    tail(&data);
+    most_frames(&data);
 }

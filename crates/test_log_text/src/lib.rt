@@ -22,136 +22,93 @@ pub fn number(n: usize) {
 }
 
 pub fn clear(log: &mut [u8]) {
-    slices::zero_at(log, 0, log.len());
+    log.fill(0);
 }
 
 // The data: 1, 2, .. 250, 0, and again from the start.
 pub fn count_up(s: &mut [u8]) {
-    let mut i = 0;
-    let mut b: u8 = 0;
-    while i < s.len() {
-        b = (b + 1) % 251;
-        s[i] = b;
-        i += 1;
+    for (i, byte) in s.iter_mut().enumerate() {
+        *byte = ((i % 251 + 1) % 251) as u8;
     }
 }
 
 // A record of the first n bytes of data at a place; there is none where the data are shorter.
-fn write(log: &mut [u8], place: usize, data: &[u8], n: usize) -> RecordWrite {
-    if data.len() < n {
-        return RecordWrite::NoRoom;
-    }
-    let table = [0u32; 0];
-    recordlog::write_record(&table, log, place, &data[0..n])
+fn write(log: &mut [u8], place: usize, data: &[u8], n: usize) -> Option<RecordWrite> {
+    recordlog::write_record(&[], log, place, data.get(..n)?)
 }
 
 // The same. Answers the place after it; where there is no room, 13 is printed and the place stays.
 pub fn put(log: &mut [u8], place: usize, data: &[u8], n: usize) -> usize {
-    let answer = write(log, place, data, n);
-    let RecordWrite::Written {
-        frame_bytes: _,
-        padding_bytes: _,
-        next,
-    } = answer
-    else {
-        text(b" 13");
-        return place;
-    };
-    next
+    match write(log, place, data, n) {
+        Some(written) => written.next,
+        None => {
+            text(b" 13");
+            place
+        }
+    }
 }
 
 // The same, with the two counts printed: frame bytes + padding bytes.
 pub fn put_counted(log: &mut [u8], place: usize, data: &[u8], n: usize) {
-    let answer = write(log, place, data, n);
-    let RecordWrite::Written {
-        frame_bytes,
-        padding_bytes,
-        next: _,
-    } = answer
-    else {
-        text(b" 13");
-        return;
-    };
-    text(b" ");
-    number(frame_bytes);
-    text(b"+");
-    number(padding_bytes);
+    match write(log, place, data, n) {
+        Some(written) => {
+            text(b" ");
+            number(written.frame_bytes);
+            text(b"+");
+            number(written.padding_bytes);
+        }
+        None => text(b" 13"),
+    }
 }
 
 fn show_record(scratch: &[u8], data: &[u8], len: usize) {
     text(b" r");
     number(len);
-    if len <= scratch.len() {
-        if len <= data.len() {
-            if slices::same(&scratch[0..len], &data[0..len]) {
-                return;
-            }
-        }
-    }
-    text(b"?");
-}
-
-fn show_corruption(c: Corruption) {
-    match c {
-        Corruption::WrongChecksum => text(b" C"),
-        Corruption::UnknownType => text(b" T"),
-        Corruption::PastBlock => text(b" P"),
+    match (scratch.get(..len), data.get(..len)) {
+        (Some(read), Some(written)) if read == written => {}
+        _ => text(b"?"),
     }
 }
 
 fn show(answer: RecordAnswer, scratch: &[u8], data: &[u8]) {
     match answer {
         RecordAnswer::Record(len) => show_record(scratch, data, len),
-        RecordAnswer::Corruption(c) => show_corruption(c),
+        RecordAnswer::Corruption(Corruption::WrongChecksum) => text(b" C"),
+        RecordAnswer::Corruption(Corruption::UnknownType) => text(b" T"),
+        RecordAnswer::Corruption(Corruption::PastBlock) => text(b" P"),
         RecordAnswer::EndOfLog => text(b" E"),
         RecordAnswer::TooLong => text(b" X"),
     }
 }
 
-// Whether reading goes on after an answer.
-fn goes_on(answer: RecordAnswer) -> bool {
-    match answer {
-        RecordAnswer::Record(_) => true,
-        RecordAnswer::Corruption(_) => true,
-        RecordAnswer::EndOfLog => false,
-        RecordAnswer::TooLong => false,
-    }
-}
-
-// An answer, printed where `shown` says so. Answers whether reading goes on.
-fn met(answer: RecordAnswer, scratch: &[u8], data: &[u8], shown: bool) -> bool {
-    if shown {
-        show(answer, scratch, data);
-    }
-    goes_on(answer)
-}
-
-// All answers of the fresh reader.
+// All answers of the fresh reader, printed where `shown` says so.
 pub fn read_into(log: &[u8], scratch: &mut [u8], data: &[u8], shown: bool) -> AllRead {
     let mut reader = Reader::new();
-    let mut count: usize = 0;
     if log.len() < Reader::BLOCK_NUM_BYTES {
-        return AllRead { count, reader };
+        return AllRead { count: 0, reader };
     }
-    let table = [0u32; 0];
-    while count < 20000 {
-        let read = recordlog::next_record(&table, log, scratch, reader);
+    for count in 0..20000 {
+        let read = recordlog::next_record(&[], log, scratch, reader);
         reader = read.reader;
         let answer = read.answer;
-        if !met(answer, scratch, data, shown) {
+        if shown {
+            show(answer, scratch, data);
+        }
+        if matches!(answer, RecordAnswer::EndOfLog | RecordAnswer::TooLong) {
             return AllRead { count, reader };
         }
-        count += 1;
     }
-    AllRead { count, reader }
+    AllRead {
+        count: 20000,
+        reader,
+    }
 }
 
 // The place of a reader, where a writer resumes.
 pub fn resume(reader: Reader) -> usize {
-    if reader.block < 4096 {
-        if reader.cursor <= Reader::BLOCK_NUM_BYTES {
-            return reader.block * Reader::BLOCK_NUM_BYTES + reader.cursor;
-        }
+    if reader.block < 4096 && reader.cursor <= Reader::BLOCK_NUM_BYTES {
+        reader.block * Reader::BLOCK_NUM_BYTES + reader.cursor
+    } else {
+        0
     }
-    0
 }

@@ -5,23 +5,13 @@
 ghost use Rattle.std.specs.Prelude.{◌≡◌, ◌≤◌, length};
 
 use planes::PlanesError;
+use std::array;
 
 const STDOUT: i32 = 1;
 
-// The numbers from 0 on, 251 of them over and over.
-fn count_up(s: &mut [u8]) {
-    let mut i = 0;
-    while i < s.len() {
-        s[i] = (i % 251) as u8;
-        i += 1;
-    }
-}
-
 fn print_bytes(s: &[u8]) {
-    let mut i = 0;
-    while i < s.len() {
-        io::print_hex(STDOUT, s[i] as u64, 2);
-        i += 1;
+    for byte in s {
+        io::print_hex(STDOUT, u64::from(*byte), 2);
     }
 }
 
@@ -37,60 +27,40 @@ fn print_call(name: &[u8], width: u64, payload: usize, target: usize) {
     io::write_all(STDOUT, b": ");
 }
 
-// Ends a line: the answer's number; the target's bytes where nothing is refused, else whether they are as before.
-fn print_answer(number: u64, before: &[u8], target: &[u8]) {
-    io::print_decimal(STDOUT, number);
-    if number == 0 {
-        io::write_all(STDOUT, b" [");
-        print_bytes(target);
-        io::write_all(STDOUT, b"]");
-    } else if slices::same(before, target) {
-        io::write_all(STDOUT, b" as before");
-    } else {
-        io::write_all(STDOUT, b" changed");
-    }
-    io::write_all(STDOUT, b"\n");
-}
-
-// The number of a step's answer: 0 where nothing is refused.
-fn number(answer: Result<(), PlanesError>) -> u64 {
+// Ends a line: the answer's number, 0 where nothing is refused; then the target's bytes, or whether they are as before.
+fn print_answer(answer: Result<(), PlanesError>, before: &[u8], target: &[u8]) {
     match answer {
-        Ok(()) => 0,
-        Err(error) => error.number(),
+        Ok(()) => {
+            io::write_all(STDOUT, b"0 [");
+            print_bytes(target);
+            io::write_all(STDOUT, b"]\n");
+        }
+        Err(error) => {
+            let kept: &[u8] = if before == target {
+                b" as before\n"
+            } else {
+                b" changed\n"
+            };
+            io::print_decimal(STDOUT, error.number());
+            io::write_all(STDOUT, kept);
+        }
     }
-}
-
-fn to_planes(payload: &[u8], width: u64, before: &[u8], target: &mut [u8]) {
-    print_call(b"to_planes", width, payload.len(), target.len());
-    let answer = planes::to_planes(payload, width, target);
-    print_answer(number(answer), before, target);
-}
-
-fn from_planes(payload: &[u8], width: u64, before: &[u8], target: &mut [u8]) {
-    print_call(b"from_planes", width, payload.len(), target.len());
-    let answer = planes::from_planes(payload, width, target);
-    print_answer(number(answer), before, target);
 }
 
 // Both ways, with a payload and a target of these lengths.
 fn run(bytes: &[u8], width: u64, payload: usize, target: usize)
     requires { (payload ≤ length bytes.now) × (target ≤ 4162) }
 {
+    let payload = &bytes[..payload];
     let before = [0xeeu8; 4162];
     let mut to = before;
-    to_planes(
-        &bytes[0..payload],
-        width,
-        &before[0..target],
-        &mut to[0..target],
-    );
+    print_call(b"to_planes", width, payload.len(), target);
+    let answer = planes::to_planes(payload, width, &mut to[..target]);
+    print_answer(answer, &before[..target], &to[..target]);
     let mut from = before;
-    from_planes(
-        &bytes[0..payload],
-        width,
-        &before[0..target],
-        &mut from[0..target],
-    );
+    print_call(b"from_planes", width, payload.len(), target);
+    let answer = planes::from_planes(payload, width, &mut from[..target]);
+    print_answer(answer, &before[..target], &from[..target]);
 }
 
 // A target as long as the payload, one longer and one shorter.
@@ -115,13 +85,13 @@ fn run_lengths(bytes: &[u8], width: u64, reading: usize)
 }
 
 fn main() {
-    let mut bytes = [0u8; 4161];
-    count_up(&mut bytes);
+    // The numbers from 0 on, 251 of them over and over.
+    let bytes: [u8; 4161] = array::from_fn(|i| (i % 251) as u8);
     run_lengths(&bytes, 0, 1);
     run_lengths(&bytes, 1, 1);
     run_lengths(&bytes, 2, 2);
     run_lengths(&bytes, 63, 63);
     run_lengths(&bytes, 64, 64);
     run_lengths(&bytes, 65, 65);
-    run_lengths(&bytes, 0xffff_ffff_ffff_ffff, 64);
+    run_lengths(&bytes, u64::MAX, 64);
 }

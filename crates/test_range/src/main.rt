@@ -4,112 +4,80 @@
 
 use mem_entries::blank;
 use multi_record_log::entries::range;
-use multi_record_log::{Lower, QuestionAnswer, RecordEntry, Upper};
+use multi_record_log::{QuestionAnswer, RecordEntry};
+use std::ops::Bound;
+use std::{fmt, io};
 
-fn text(s: &[u8]) {
-    io::write_all(1, s);
-}
+// An answer, as it is printed.
+#[derive(Clone, Copy)]
+struct Told(QuestionAnswer);
 
-fn say(what: &[u8], n: u64) {
-    io::write_all(1, what);
-    io::print_decimal(1, n);
-}
-
-fn say_place(position: u64, start: usize, length: usize) {
-    say(b" record ", position);
-    say(b" at ", start as u64);
-    say(b" of ", length as u64);
-}
-
-fn say_answer(answer: QuestionAnswer) {
-    match answer {
-        QuestionAnswer::Positions { .. } => text(b" positions"),
-        QuestionAnswer::Record {
-            position,
-            start,
-            length,
-        } => say_place(position, start, length),
-        QuestionAnswer::Largest { .. } => text(b" largest"),
-        QuestionAnswer::Nothing => text(b" none"),
-        QuestionAnswer::Refused(number) => say(b" refused ", number),
+impl fmt::Display for Told {
+    fn fmt<W: fmt::Write>(&self, f: &mut fmt::Formatter<W>) -> fmt::Result {
+        match self.0 {
+            QuestionAnswer::Positions { .. } => write!(f, "positions"),
+            QuestionAnswer::Record {
+                position,
+                start,
+                length,
+            } => write!(f, "record {position} at {start} of {length}"),
+            QuestionAnswer::Largest { .. } => write!(f, "largest"),
+            QuestionAnswer::Nothing => write!(f, "none"),
+            QuestionAnswer::Refused(number) => write!(f, "refused {number}"),
+        }
     }
-}
-
-// The part in bars, then the answer.
-fn tell(part: &[u8], answer: QuestionAnswer) {
-    text(b" |");
-    text(part);
-    text(b"|");
-    say_answer(answer);
-    text(b"\n");
-}
-
-// A range is asked for on a table of entries and with an answer that are locals and lent; what is handed back and the answer are told.
-fn ask(
-    names: &[u8],
-    payloads: &[u8],
-    records: [RecordEntry; 4],
-    largest: &[u64],
-    table: &[u64],
-    name: &[u8],
-    lower: Lower,
-    upper: Upper,
-    mut answer: QuestionAnswer,
-) {
-    let part = range(
-        names,
-        payloads,
-        &records,
-        largest,
-        table,
-        name,
-        lower,
-        upper,
-        &mut answer,
-    );
-    tell(part, answer);
 }
 
 // A record of the queue.
 fn entry(position: u64, length: usize) -> RecordEntry {
     RecordEntry {
         queue: 0,
-        position: position,
-        length: length,
+        position,
+        length,
     }
 }
 
-// The memory is arranged as docs/LAYOUT.md says, and the range asked for.
-fn ask_of(what: &[u8], name: &[u8], lower: Lower, upper: Upper) {
+// The memory is arranged as docs/LAYOUT.md says, and the range asked for: all of it, and the answer, are locals that are lent.
+fn ask(
+    rt: &impl Print,
+    what: &str,
+    name: &[u8],
+    lower: Bound<u64>,
+    upper: Bound<u64>,
+) -> io::Result<()> {
     let table: [u64; 7] = [1, 1, 3, 11, 1, 0, 6];
     let records = [entry(0, 5), entry(1, 0), entry(5, 6), blank()];
     let largest: [u64; 4] = [0, 0, 2, 0];
-    text(what);
-    ask(
+    let mut answer = QuestionAnswer::Nothing;
+    let part = range(
         b"a",
         b"helloagain!",
-        records,
+        &records,
         &largest,
         &table,
         name,
         lower,
         upper,
-        QuestionAnswer::Nothing,
+        &mut answer,
     );
+    print!(rt; "{what}: |")?;
+    rt.write_all(part)?;
+    println!(rt; "| {}", Told(answer))
 }
 
-fn main() {
-    ask_of(b"first:", b"a", Lower::Unbounded, Upper::Unbounded);
-    ask_of(b"after 0:", b"a", Lower::After(0), Upper::Unbounded);
-    ask_of(b"from 2:", b"a", Lower::From(2), Upper::Unbounded);
-    ask_of(b"from 5:", b"a", Lower::From(5), Upper::Unbounded);
-    ask_of(
-        b"after 0 through 0:",
+fn main(rt: HostRuntime) -> io::Result<()> {
+    ask(&rt, "first", b"a", Bound::Unbounded, Bound::Unbounded)?;
+    ask(&rt, "after 0", b"a", Bound::Excluded(0), Bound::Unbounded)?;
+    ask(&rt, "from 2", b"a", Bound::Included(2), Bound::Unbounded)?;
+    ask(&rt, "from 5", b"a", Bound::Included(5), Bound::Unbounded)?;
+    ask(
+        &rt,
+        "after 0 through 0",
         b"a",
-        Lower::After(0),
-        Upper::Through(0),
-    );
-    ask_of(b"from 6:", b"a", Lower::From(6), Upper::Unbounded);
-    ask_of(b"before 0:", b"a", Lower::Unbounded, Upper::Before(0));
-    ask_of(b"no queue:", b"b", Lower::Unbounded, Upper::Unbounded);
+        Bound::Excluded(0),
+        Bound::Included(0),
+    )?;
+    ask(&rt, "from 6", b"a", Bound::Included(6), Bound::Unbounded)?;
+    ask(&rt, "before 0", b"a", Bound::Unbounded, Bound::Excluded(0))?;
+    ask(&rt, "no queue", b"b", Bound::Unbounded, Bound::Unbounded)
 }

@@ -3,9 +3,7 @@
 // each item, with its position, where its payload starts and how long it is, and how the items end.
 #![tactic(auto)]
 
-ghost use Rattle.std.specs.Prelude.{◌+◌, ◌<◌, ◌≤◌, length};
-
-use record::{EncodedLen, MultiPlexedRecord, MultiRecord, NextItem, RecordType, Written};
+use record::{MultiPlexedRecord, MultiRecord, RecordType};
 
 const STDOUT: i32 = 1;
 
@@ -18,15 +16,9 @@ fn print_number(n: u64) {
     io::print_decimal(STDOUT, n);
 }
 
-fn print_byte(b: u8) {
-    io::print_hex(STDOUT, b as u64, 2);
-}
-
 fn print_bytes(s: &[u8]) {
-    let mut i = 0;
-    while i < s.len() {
-        print_byte(s[i]);
-        i += 1;
+    for byte in s {
+        io::print_hex(STDOUT, u64::from(*byte), 2);
     }
 }
 
@@ -45,32 +37,23 @@ fn print_part(what: &[u8], position: u64, start: usize, len: usize) {
 }
 
 // Item after item.
-fn print_items(s: &[u8], items: MultiRecord) {
-    let mut left = items;
+fn print_items(s: &[u8], mut left: MultiRecord) {
     loop {
         match record::next_item(s, left) {
-            NextItem::Item {
-                position,
-                start,
-                len,
-                rest,
-            } => {
-                print_part(b" item", position, start, len);
-                left = rest;
+            Ok(Some(item)) => {
+                print_part(b" item", item.position, item.start, item.len);
+                left = item.rest;
             }
-            NextItem::End => {
-                say(b" end");
-                return;
-            }
-            NextItem::Bad => {
-                say(b" bad");
-                return;
-            }
+            Ok(None) => return say(b" end"),
+            Err(_) => return say(b" bad"),
         }
     }
 }
 
-fn print_record(s: &[u8], r: MultiPlexedRecord) {
+fn print_record(s: &[u8], r: Option<MultiPlexedRecord>) {
+    let Some(r) = r else {
+        return say(b"none");
+    };
     match r {
         MultiPlexedRecord::Truncate {
             position,
@@ -100,7 +83,6 @@ fn print_record(s: &[u8], r: MultiPlexedRecord) {
             position,
             body_start,
         } => print_part(b"mark", position, body_start, 8),
-        MultiPlexedRecord::None => say(b"none"),
     }
 }
 
@@ -120,10 +102,8 @@ fn run(s: &[u8], should: &[u8]) {
 
 // Each length from `from` up to and without `to`.
 fn run_lengths(s: &[u8], from: usize, to: usize, should: &[u8]) {
-    let mut len = from;
-    while len < to {
+    for len in from..to {
         run_first(s, len, should);
-        len += 1;
     }
 }
 
@@ -142,107 +122,107 @@ fn item_heads() {
     run_first(s, 24, b"append 5 11 1 item 7 24 0 end");
 }
 
-// The place of the next ';' from a place on, or the end.
-fn text_end(list: &[u8], at: usize) -> usize
-    requires { at ≤ length list.now }
-    ensures { (at ≤ result) × (result ≤ length list.now) }
-{
-    let mut i = at;
-    while i < list.len() {
-        if list[i] == b';' {
-            return i;
-        }
-        i += 1;
-    }
-    i
-}
-
-// Runs the record at a place of a list, and answers where the next one stands.
-fn run_at(list: &[u8], at: usize) -> usize
-    requires { at < length list.now }
-    ensures { at < result }
-{
-    let n = (list[at] % 64) as usize;
-    if list.len() - at <= n {
-        return list.len();
-    }
-    let start = at + 1;
-    let end = start + n;
-    let text = text_end(list, end);
-    run(&list[start..end], &list[end..text]);
-    if text < list.len() { text + 1 } else { text }
-}
-
-// Runs each record of a list. Its length stands before it, and after it what should be answered,
-// up to a ';'.
-fn run_list(list: &[u8]) {
-    let mut at = 0;
-    while at < list.len() {
-        at = run_at(list, at);
-    }
-}
-
 // Types 0, 2 to 5 and 255, and positions of eight bytes.
 fn types() {
-    run_list(
-        b"\x0c\x00\x05\0\0\0\0\0\0\0\x01\0anone;\
-          \x0c\x02\x05\0\0\0\0\0\0\0\x01\0atouch 5 11 1;\
-          \x0c\x03\x05\0\0\0\0\0\0\0\x01\0adelete 5 11 1;\
-          \x0c\x04\x05\0\0\0\0\0\0\0\x01\0aappend 5 11 1 end;\
-          \x0c\x05\x05\0\0\0\0\0\0\0\x01\0anone;\
-          \x0c\xff\x05\0\0\0\0\0\0\0\x01\0anone;\
-          \x0c\x01\xff\xff\xff\xff\xff\xff\xff\xff\x01\0atruncate 18446744073709551615 11 1;\
-          \x0b\x02\x01\x02\x03\x04\x05\x06\x07\x08\0\0touch 578437695752307201 11 0;",
+    run(b"\x00\x05\0\0\0\0\0\0\0\x01\0a", b"none");
+    run(b"\x02\x05\0\0\0\0\0\0\0\x01\0a", b"touch 5 11 1");
+    run(b"\x03\x05\0\0\0\0\0\0\0\x01\0a", b"delete 5 11 1");
+    run(b"\x04\x05\0\0\0\0\0\0\0\x01\0a", b"append 5 11 1 end");
+    run(b"\x05\x05\0\0\0\0\0\0\0\x01\0a", b"none");
+    run(b"\xff\x05\0\0\0\0\0\0\0\x01\0a", b"none");
+    run(
+        b"\x01\xff\xff\xff\xff\xff\xff\xff\xff\x01\0a",
+        b"truncate 18446744073709551615 11 1",
+    );
+    run(
+        b"\x02\x01\x02\x03\x04\x05\x06\x07\x08\0\0",
+        b"touch 578437695752307201 11 0",
     );
 }
 
 // The empty name; a name length one past the end, with its two bytes turned round, and the greatest;
 // a name that is not UTF-8, and 01's two names; a body after a truncate, a touch and a delete.
 fn names() {
-    run_list(
-        b"\x0b\x03\0\0\0\0\0\0\0\0\0\0delete 0 11 0;\
-          \x0c\x01\x05\0\0\0\0\0\0\0\x02\0anone;\
-          \x0c\x01\x05\0\0\0\0\0\0\0\0\x01anone;\
-          \x0c\x01\x05\0\0\0\0\0\0\0\xff\xffanone;\
-          \x0c\x01\x05\0\0\0\0\0\0\0\x01\0\x80none;\
-          \x0e\x01\x05\0\0\0\0\0\0\0\x03\0\xed\xa0\x80none;\
-          \x0f\x01\x05\0\0\0\0\0\0\0\x04\0\xf4\x8f\xbf\xbftruncate 5 11 4;\
-          \x10\x01\x05\0\0\0\0\0\0\0\x01\0abodytruncate 5 11 1;\
-          \x0d\x02\x05\0\0\0\0\0\0\0\x01\0a\xfftouch 5 11 1;\
-          \x0f\x03\x05\0\0\0\0\0\0\0\0\0bodydelete 5 11 0;",
+    run(b"\x03\0\0\0\0\0\0\0\0\0\0", b"delete 0 11 0");
+    run(b"\x01\x05\0\0\0\0\0\0\0\x02\0a", b"none");
+    run(b"\x01\x05\0\0\0\0\0\0\0\0\x01a", b"none");
+    run(b"\x01\x05\0\0\0\0\0\0\0\xff\xffa", b"none");
+    run(b"\x01\x05\0\0\0\0\0\0\0\x01\0\x80", b"none");
+    run(b"\x01\x05\0\0\0\0\0\0\0\x03\0\xed\xa0\x80", b"none");
+    run(
+        b"\x01\x05\0\0\0\0\0\0\0\x04\0\xf4\x8f\xbf\xbf",
+        b"truncate 5 11 4",
     );
+    run(b"\x01\x05\0\0\0\0\0\0\0\x01\0abody", b"truncate 5 11 1");
+    run(b"\x02\x05\0\0\0\0\0\0\0\x01\0a\xff", b"touch 5 11 1");
+    run(b"\x03\x05\0\0\0\0\0\0\0\0\0body", b"delete 5 11 0");
 }
 
 // An item with one byte of payload: its length right, one past the end, one before it, and the
 // greatest. Two items, the second without payload; the same with its last byte missing.
 fn items() {
-    run_list(
-        b"\x18\x04\0\0\0\0\0\0\0\0\0\0\x07\0\0\0\0\0\0\0\x01\0\0\0xappend 0 11 0 item 7 23 1 end;\
-          \x18\x04\0\0\0\0\0\0\0\0\0\0\x07\0\0\0\0\0\0\0\x02\0\0\0xnone;\
-          \x18\x04\0\0\0\0\0\0\0\0\0\0\x07\0\0\0\0\0\0\0\0\0\0\0xnone;\
-          \x18\x04\0\0\0\0\0\0\0\0\0\0\x07\0\0\0\0\0\0\0\xff\xff\xff\xffxnone;\
-          \x26\x04\0\0\0\0\0\0\0\0\0\0\x07\0\0\0\0\0\0\0\x03\0\0\0one\
-          \xff\xff\xff\xff\xff\xff\xff\xff\0\0\0\0\
-          append 0 11 0 item 7 23 3 item 18446744073709551615 38 0 end;\
-          \x25\x04\0\0\0\0\0\0\0\0\0\0\x07\0\0\0\0\0\0\0\x03\0\0\0one\
-          \xff\xff\xff\xff\xff\xff\xff\xff\0\0\0none;",
+    run(
+        b"\x04\0\0\0\0\0\0\0\0\0\0\x07\0\0\0\0\0\0\0\x01\0\0\0x",
+        b"append 0 11 0 item 7 23 1 end",
+    );
+    run(
+        b"\x04\0\0\0\0\0\0\0\0\0\0\x07\0\0\0\0\0\0\0\x02\0\0\0x",
+        b"none",
+    );
+    run(
+        b"\x04\0\0\0\0\0\0\0\0\0\0\x07\0\0\0\0\0\0\0\0\0\0\0x",
+        b"none",
+    );
+    run(
+        b"\x04\0\0\0\0\0\0\0\0\0\0\x07\0\0\0\0\0\0\0\xff\xff\xff\xffx",
+        b"none",
+    );
+    run(
+        b"\x04\0\0\0\0\0\0\0\0\0\0\x07\0\0\0\0\0\0\0\x03\0\0\0one\xff\xff\xff\xff\xff\xff\xff\xff\0\0\0\0",
+        b"append 0 11 0 item 7 23 3 item 18446744073709551615 38 0 end",
+    );
+    run(
+        b"\x04\0\0\0\0\0\0\0\0\0\0\x07\0\0\0\0\0\0\0\x03\0\0\0one\xff\xff\xff\xff\xff\xff\xff\xff\0\0\0",
+        b"none",
     );
 }
 
 // Marks: a body of 8 bytes, the numbers 0 and 2^64-1; bodies of 7, 9 and no bytes; a name of one byte with 8 and with 7 bytes
 // after it; types 1 and 6 in the form of a mark.
 fn marks() {
-    run_list(
-        b"\x13\x05\x07\0\0\0\0\0\0\0\0\0\x01\x02\x03\x04\x05\x06\x07\x08mark 7 11 8;\
-          \x13\x05\0\0\0\0\0\0\0\0\0\0\0\0\0\0\0\0\0\0mark 0 11 8;\
-          \x13\x05\xff\xff\xff\xff\xff\xff\xff\xff\0\0\xff\xff\xff\xff\xff\xff\xff\xffmark 18446744073709551615 11 8;\
-          \x12\x05\x07\0\0\0\0\0\0\0\0\0\x01\x02\x03\x04\x05\x06\x07none;\
-          \x14\x05\x07\0\0\0\0\0\0\0\0\0\x01\x02\x03\x04\x05\x06\x07\x08\x09none;\
-          \x0b\x05\x07\0\0\0\0\0\0\0\0\0none;\
-          \x14\x05\x07\0\0\0\0\0\0\0\x01\0a\x01\x02\x03\x04\x05\x06\x07\x08none;\
-          \x13\x05\x07\0\0\0\0\0\0\0\x01\0a\x01\x02\x03\x04\x05\x06\x07none;\
-          \x13\x01\x07\0\0\0\0\0\0\0\0\0\x01\x02\x03\x04\x05\x06\x07\x08truncate 7 11 0;\
-          \x13\x06\x07\0\0\0\0\0\0\0\0\0\x01\x02\x03\x04\x05\x06\x07\x08none;",
+    run(
+        b"\x05\x07\0\0\0\0\0\0\0\0\0\x01\x02\x03\x04\x05\x06\x07\x08",
+        b"mark 7 11 8",
+    );
+    run(b"\x05\0\0\0\0\0\0\0\0\0\0\0\0\0\0\0\0\0\0", b"mark 0 11 8");
+    run(
+        b"\x05\xff\xff\xff\xff\xff\xff\xff\xff\0\0\xff\xff\xff\xff\xff\xff\xff\xff",
+        b"mark 18446744073709551615 11 8",
+    );
+    run(
+        b"\x05\x07\0\0\0\0\0\0\0\0\0\x01\x02\x03\x04\x05\x06\x07",
+        b"none",
+    );
+    run(
+        b"\x05\x07\0\0\0\0\0\0\0\0\0\x01\x02\x03\x04\x05\x06\x07\x08\x09",
+        b"none",
+    );
+    run(b"\x05\x07\0\0\0\0\0\0\0\0\0", b"none");
+    run(
+        b"\x05\x07\0\0\0\0\0\0\0\x01\0a\x01\x02\x03\x04\x05\x06\x07\x08",
+        b"none",
+    );
+    run(
+        b"\x05\x07\0\0\0\0\0\0\0\x01\0a\x01\x02\x03\x04\x05\x06\x07",
+        b"none",
+    );
+    run(
+        b"\x01\x07\0\0\0\0\0\0\0\0\0\x01\x02\x03\x04\x05\x06\x07\x08",
+        b"truncate 7 11 0",
+    );
+    run(
+        b"\x06\x07\0\0\0\0\0\0\0\0\0\x01\x02\x03\x04\x05\x06\x07\x08",
+        b"none",
     );
 }
 
@@ -258,12 +238,18 @@ fn run_mark(s: &mut [u8], should: &[u8]) {
 
 // Into bytes of ee hex: one too few, just enough, and one to spare.
 fn mark_writes() {
-    let mut a = [0xeeu8; 18];
-    run_mark(&mut a, b"nothing eeeeeeeeeeeeeeeeeeeeeeeeeeeeeeeeeeee");
-    let mut b = [0xeeu8; 19];
-    run_mark(&mut b, b"until 19 05070000000000000000000102000000000000");
-    let mut c = [0xeeu8; 20];
-    run_mark(&mut c, b"until 19 05070000000000000000000102000000000000ee");
+    run_mark(
+        &mut [0xee; 18],
+        b"nothing eeeeeeeeeeeeeeeeeeeeeeeeeeeeeeeeeeee",
+    );
+    run_mark(
+        &mut [0xee; 19],
+        b"until 19 05070000000000000000000102000000000000",
+    );
+    run_mark(
+        &mut [0xee; 20],
+        b"until 19 05070000000000000000000102000000000000ee",
+    );
 }
 
 fn run_step(s: &[u8], start: usize, end: usize, should: &[u8]) {
@@ -292,13 +278,13 @@ fn steps() {
     run_bad_step(s, 0, 18446744073709551615);
 }
 
-fn print_written(w: Written) {
+fn print_written(w: Option<usize>) {
     match w {
-        Written::Until(place) => {
+        Some(place) => {
             say(b"until");
             print_number(place as u64);
         }
-        Written::Nothing => say(b"nothing"),
+        None => say(b"nothing"),
     }
 }
 
@@ -318,23 +304,21 @@ fn run_write(s: &mut [u8], should: &[u8]) {
 // Into bytes of ee hex: too few for the head, just enough for it, one too few for the item, just
 // enough, and one to spare.
 fn writes() {
-    let mut a = [0xeeu8; 12];
-    run_write(&mut a, b"nothing nothing eeeeeeeeeeeeeeeeeeeeeeee");
-    let mut b = [0xeeu8; 13];
-    run_write(&mut b, b"until 13 nothing 04050000000000000002006162");
-    let mut c = [0xeeu8; 27];
+    run_write(&mut [0xee; 12], b"nothing nothing eeeeeeeeeeeeeeeeeeeeeeee");
     run_write(
-        &mut c,
+        &mut [0xee; 13],
+        b"until 13 nothing 04050000000000000002006162",
+    );
+    run_write(
+        &mut [0xee; 27],
         b"until 13 nothing 04050000000000000002006162eeeeeeeeeeeeeeeeeeeeeeeeeeee",
     );
-    let mut d = [0xeeu8; 28];
     run_write(
-        &mut d,
+        &mut [0xee; 28],
         b"until 13 until 28 040500000000000000020061620700000000000000030000006f6e65",
     );
-    let mut e = [0xeeu8; 29];
     run_write(
-        &mut e,
+        &mut [0xee; 29],
         b"until 13 until 28 040500000000000000020061620700000000000000030000006f6e65ee",
     );
 }
@@ -346,10 +330,7 @@ fn run_length(name: usize, items: usize, payload: usize, should: u64) {
     print_number(items as u64);
     print_number(payload as u64);
     say(b":");
-    match record::encoded_len(name, items, payload) {
-        EncodedLen::Bytes(n) => print_number(n as u64),
-        EncodedLen::TooLong => print_number(0),
-    }
+    print_number(record::encoded_len(name, items, payload).unwrap_or(0) as u64);
     say(b", should be");
     print_number(should);
     say(b"\n");

@@ -1,8 +1,13 @@
 use Rattle.card_input.proofs.Parts.{read_more}
 use Rattle.card_input.proofs.read_card.Goals as goal
 
-pub returns-in_default-clause-consumed : goal.returns-in_default-clause-consumed
-returns-in_default-clause-consumed g c =
+pub returns-in-Ended-clause-consumed : goal.returns-in-Ended-clause-consumed
+returns-in-Ended-clause-consumed g c =
+    let read = c.read_on-reading.ensures in
+    read_more _ _ _ _ _ _ _ (read.kept c.loop.invariant.within) read.front c.loop.invariant.consumed read.consumed
+
+pub returns-in-Failed-clause-failed_consumed : goal.returns-in-Failed-clause-failed_consumed
+returns-in-Failed-clause-failed_consumed g c =
     let read = c.read_on-reading.ensures in
     read_more _ _ _ _ _ _ _ (read.kept c.loop.invariant.within) read.front c.loop.invariant.consumed read.consumed
 

@@ -1,8 +1,0 @@
-use Rattle.std.proofs.Common.{refl, arith, length-set}
-use Rattle.test_commands.proofs.appends.set_lens.Goals as goal
-
-pub loop-i-init : goal.loop-i-init
-loop-i-init c = refl
-
-pub loop-i-preserved : goal.loop-i-preserved
-loop-i-preserved c = simp length-set (omega arith)

@@ -1,9 +1,0 @@
--- `test_drive::main` ends: fewer inputs are left at each turn.
--- Assumes nothing.
-use Rattle.test_drive.proofs.main.Given as goal
-
-abbrev pub invariant-loop-left : goal.invariant-loop-left
-invariant-loop-left l = Unit {0}
-
-abbrev pub decreases-loop-left : goal.decreases-loop-left
-decreases-loop-left l = l.left
