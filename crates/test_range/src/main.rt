@@ -4,26 +4,32 @@
 
 use mem_entries::blank;
 use multi_record_log::entries::range;
-use multi_record_log::{QuestionAnswer, RecordEntry};
+use multi_record_log::{FoundRecord, HeldMemory, QuestionAnswer, RecordEntry, Refusal};
 use std::ops::Bound;
 use std::{fmt, io};
 
 // An answer, as it is printed.
 #[derive(Clone, Copy)]
-struct Told(QuestionAnswer);
+struct Told(Result<QuestionAnswer, Refusal>);
 
 impl fmt::Display for Told {
     fn fmt<W: fmt::Write>(&self, f: &mut fmt::Formatter<W>) -> fmt::Result {
         match self.0 {
-            QuestionAnswer::Positions { .. } => write!(f, "positions"),
-            QuestionAnswer::Record {
-                position,
-                start,
-                length,
-            } => write!(f, "record {position} at {start} of {length}"),
-            QuestionAnswer::Largest { .. } => write!(f, "largest"),
-            QuestionAnswer::Nothing => write!(f, "none"),
-            QuestionAnswer::Refused(number) => write!(f, "refused {number}"),
+            Ok(QuestionAnswer::Positions { .. }) => write!(f, "positions"),
+            Ok(
+                QuestionAnswer::Record(
+                    Some(
+                        FoundRecord {
+                            position,
+                            start,
+                            length,
+                        },
+                    ),
+                ),
+            ) => write!(f, "record {position} at {start} of {length}"),
+            Ok(QuestionAnswer::Record(None)) => write!(f, "none"),
+            Ok(QuestionAnswer::Largest(_)) => write!(f, "largest"),
+            Err(refusal) => write!(f, "refused {}", refusal.number()),
         }
     }
 }
@@ -48,21 +54,17 @@ fn ask(
     let table: [u64; 7] = [1, 1, 3, 11, 1, 0, 6];
     let records = [entry(0, 5), entry(1, 0), entry(5, 6), blank()];
     let largest: [u64; 4] = [0, 0, 2, 0];
-    let mut answer = QuestionAnswer::Nothing;
-    let part = range(
-        b"a",
-        b"helloagain!",
-        &records,
-        &largest,
-        &table,
-        name,
-        lower,
-        upper,
-        &mut answer,
-    );
+    let memory = HeldMemory {
+        names: b"a",
+        payloads: b"helloagain!",
+        entries: &records,
+        largest: &largest,
+        table: &table,
+    };
+    let found = range(memory, name, lower, upper);
     print!(rt; "{what}: |")?;
-    rt.write_all(part)?;
-    println!(rt; "| {}", Told(answer))
+    rt.write_all(found.payload)?;
+    println!(rt; "| {}", Told(found.answer))
 }
 
 fn main(rt: HostRuntime) -> io::Result<()> {
