@@ -4,9 +4,8 @@
 mod card;
 mod parts;
 
-pub use card::cut_down;
-
 use calls::Refusal;
+pub use card::cut_down;
 
 // Why there is no fresh card: replay or the copy refused it, or the buffer is too short for its blocks.
 #[derive(Clone, Copy, PartialEq, Eq)]
