@@ -8,10 +8,11 @@ ghost use Rattle.abi_tables.specs.Tables.{memory_in};
 ghost use Rattle.mrecordlog.specs.Told.{bound_of, range_told, tell_range, positions_told, tell_positions, largest_told, tell_largest};
 ghost use Rattle.mrecordlog.specs.Exported.{RangeExported, PositionsExported, LargestExported};
 
-use std::ops::Bound;
 use multi_record_log::{HeldMemory, QuestionAnswer, Refusal};
+use std::ops::Bound;
 
 // An end of a range, by its kind.
+// Kept: the C interface gives the kind as a number.
 fn bound(kind: u64, position: u64) -> Bound<u64>
     ensures { result ≡ bound_of kind position }
 {
