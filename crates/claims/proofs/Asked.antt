@@ -18,6 +18,8 @@ use Rattle.queues.proofs.Ordered.{in_order_found}
 use Rattle.queues.proofs.Ranges.{ask_again}
 use Rattle.calls.specs.Questions.{RangeAnswer, question_refusal, range_by, range_answer}
 use Rattle.calls.proofs.Passed.{question_passed}
+use Rattle.std.specs.Prelude.{Result}
+use Rattle.calls.specs.declared.Refusal.{Refusal}
 use Rattle.call_write.specs.declared.QuestionAnswer.{QuestionAnswer}
 use Rattle.contracts.specs.Numbers.{range_numbers}
 use Rattle.contracts.specs.Promises.{RangeKept}
@@ -49,7 +51,7 @@ abbrev gave : FirstItem → RangeAnswer
 gave f = record { refusal = 0; found = f }
 
 -- what any question of it is answered
-range_given : (m : Memory) (ks n : List ℕ) (lo : Bound ℕ) (hi : Bound ℕ) (a : QuestionAnswer) (q : OfQueue m ks n) → RangeKept m ks n lo hi a
+range_given : (m : Memory) (ks n : List ℕ) (lo : Bound ℕ) (hi : Bound ℕ) (a : Result QuestionAnswer Refusal) (q : OfQueue m ks n) → RangeKept m ks n lo hi a
     → range_numbers m.payloads a ≡ gave (range_of lo hi q.queue.records)
 unfolding range_answer range_by
 range_given m ks n lo hi a q w = w.answer ∙ ap₂ (λ (i : ℕ) (g : Found). range_by i g lo hi) q.passed q.is_held

@@ -1,19 +1,20 @@
 -- Claim.
 -- Question after question of one queue, each asked again with "after" the position that the last one gave.
 -- Assumes nothing.
-use Rattle.std.specs.Prelude.{◌≡◌, List, [], ◌∷◌, ℕ}
+use Rattle.std.specs.Prelude.{Result, ◌≡◌, List, [], ◌∷◌, ℕ}
 use Rattle.record.specs.Record.{Item}
 use Rattle.std.specs.declared.ops.Bound.{Bound}
 use Rattle.std.specs.declared.ops.Bound.TheVariants.{Excluded as excluded}
 use Rattle.queues.specs.Ranges.{FirstItem, no_item, first_item}
 use Rattle.queues.specs.Layout.{Memory}
+use Rattle.calls.specs.declared.Refusal.{Refusal}
 use Rattle.call_write.specs.declared.QuestionAnswer.{QuestionAnswer}
 use Rattle.contracts.specs.Numbers.{range_numbers}
 use Rattle.contracts.specs.Promises.{RangeKept}
 
 -- a range question of the queue n was answered, not refused, by this record or by none
 pub record RangeGave (m : Memory) (ks n : List ℕ) (lo : Bound ℕ) (hi : Bound ℕ) (f : FirstItem) : Type 0 where
-  pub answer : QuestionAnswer
+  pub answer : Result QuestionAnswer Refusal
   pub kept : RangeKept m ks n lo hi answer
   pub given : range_numbers m.payloads answer ≡ record { refusal = 0; found = f }
 
