@@ -15,6 +15,7 @@ use Rattle.recordlog.specs.Laid.{laid}
 use Rattle.queues.specs.Queues.{Queue, Capacities}
 use Rattle.queues.specs.Layout.{capacities, queue_room, at_most64}
 use Rattle.queues.proofs.Both.{never}
+use Rattle.calls.specs.declared.Refusal.TheVariants.{LogSize}
 use Rattle.calls.specs.Refusals.{refuse_if, first_refusal, log_refused}
 use Rattle.calls.specs.Replay.{Outcome, refused, left, replay_of}
 use Rattle.calls.proofs.Chain.{or_left, or_right}
@@ -29,9 +30,11 @@ use Rattle.abi_largest.proofs.Numbers.{length-numbers}
 use Rattle.abi_call.specs.OnBytes.{memory_bytes}
 use Rattle.abi_tables.specs.Tables.{memory_in}
 use Rattle.readout_text.specs.Card.{readout_scratch, readout_room, not_sized}
-use Rattle.cutdown_card.specs.declared.Cutdown.{Cutdown}
-use Rattle.cutdown_card.specs.declared.Cutdown.TheVariants.{Refused, NoRoom}
-use Rattle.cutdown_card.specs.Cutdown.{Cut, cut_refused, cut_to, lent_for, cut_by, cut_into, blank_card, cut_down, fresh_card, short_for, answered_by, cut_answer, written_by, cut_left, CutTyped, CutKept}
+use Rattle.std.specs.Prelude.{Result}
+use Rattle.cutdown_card.specs.declared.NotCut.{NotCut}
+use Rattle.std.specs.Prelude.Result.{Err}
+use Rattle.cutdown_card.specs.declared.NotCut.TheVariants.{Refused, NoRoom}
+use Rattle.cutdown_card.specs.Cutdown.{Cut, cut_refused, cut_to, lent_for, cut_by, cut_into, blank_card, cut_down, fresh_card, short_for, no_room, cut_numbered, answered_by, cut_answer, written_by, cut_left, CutTyped, CutKept}
 use Rattle.cutdown_card.specs.Kept.{into_by, Into, CutIntoKept, CutSizedKept}
 use Rattle.cutdown_card.specs.Claims.{CutdownHasRoom}
 use Rattle.cutdown_card.proofs.Into.{outcome_long}
@@ -59,7 +62,7 @@ room_is ns ps es ks t a b c d =
     ap (λ (k : ℕ). room_for k (length ns) (length (unpacked es)) (length ps)) (words_long t d) ∙ ap (λ (k : ℕ). room_for 196 k (length (unpacked es)) (length ps)) a
     ∙ ap (λ (k : ℕ). room_for 196 32768 k (length ps)) (entries_long es c) ∙ ap (λ (k : ℕ). room_for 196 32768 1024 k) b
 
-pub sized_left : (card scratch ns ps es ks t target : List ℕ) (r : Cutdown) (target' : List ℕ) → length scratch ≡ 65536 → length ns ≡ 32768 → length ps ≡ 32768 → length es ≡ 24576
+pub sized_left : (card scratch ns ps es ks t target : List ℕ) (r : Result ℕ NotCut) (target' : List ℕ) → length scratch ≡ 65536 → length ns ≡ 32768 → length ps ≡ 32768 → length es ≡ 24576
     → length ks ≡ 8192 → length t ≡ 1568 → CutIntoKept card scratch (memory_bytes ns ps es ks t) target r target' → CutSizedKept card target r target'
 sized_left card scratch ns ps es ks t target r target' s a b c k d w =
     let long : length (unpacked es) ≤ length (numbers ks) = omega (arith, entries_long es c, numbers_long ks k) in
@@ -175,24 +178,24 @@ cutdown_has_room card room h = on (not_sized card) refl
 -- ---- refused, or too short a buffer
 
 module _ (card out : List ℕ) where
-  unsized : not_sized card ≡ true → CutKept card out (Refused 1) out
-  unfolding short_for cut_down cut_answer cut_left answered_by written_by
+  unsized : not_sized card ≡ true → CutKept card out (Err (Refused LogSize)) out
+  unfolding short_for cut_down cut_answer cut_left answered_by written_by cut_numbered
   unsized e =
       record {
         typed = λ h. subst (λ (b : Bool). CutTyped (cond b (cut_refused 1) (cut_into (blank_card card) readout_scratch (replay_of card readout_room readout_scratch)))) (sym e) tt;
         answer =
-            sym (ap (λ (b : Bool). cond (not b && ltb (length out) (blocks card * 32768)) NoRoom
+            sym (ap (λ (b : Bool). cond (not b && ltb (length out) (blocks card * 32768)) (Err no_room)
             (answered_by (blocks card * 32768) (cond b (cut_refused 1) (cut_into (blank_card card) readout_scratch (replay_of card readout_room readout_scratch))))) e);
         buffer_left =
             sym (ap (λ (b : Bool). cond (not b && ltb (length out) (blocks card * 32768)) out
             (written_by card out (cond b (cut_refused 1) (cut_into (blank_card card) readout_scratch (replay_of card readout_room readout_scratch))))) e);
       }
 
-  pub too_short : length card < 32768 → CutKept card out (Refused 1) out
+  pub too_short : length card < 32768 → CutKept card out (Err (Refused LogSize)) out
   unfolding not_sized
   too_short h = unsized (ap (λ (b : Bool). b || ltb 65536 (length card)) (lt-ltb (length card) 32768 h))
 
-  pub too_long_lem : 65536 < length card → CutKept card out (Refused 1) out
+  pub too_long_lem : 65536 < length card → CutKept card out (Err (Refused LogSize)) out
   unfolding not_sized
   too_long_lem h = unsized (ap₂ (λ (a b : Bool). a || b) (le-ltb (length card) 32768 (omega (arith, h))) (lt-ltb 65536 (length card) h))
 
@@ -200,13 +203,13 @@ module _ (card out : List ℕ) where
     sized : not_sized card ≡ false
     sized = sized_is card h k
 
-    pub no_room_lem : (n : ℕ) → n ≡ blocks card * 32768 → length out < n → CutKept card out NoRoom out
-    unfolding short_for cut_answer cut_left
+    pub no_room_lem : (n : ℕ) → n ≡ blocks card * 32768 → length out < n → CutKept card out (Err NoRoom) out
+    unfolding short_for cut_answer cut_left cut_numbered
     no_room_lem n e l =
         let s : short_for card (length out) ≡ true = ap₂ (λ (b c : Bool). not b && c) sized (lt-ltb (length out) (blocks card * 32768) (omega (arith, e, l))) in
         record {
           typed = λ f. absurd (false≢true (sym f ∙ s));
-          answer = sym (ap (λ (b : Bool). cond b NoRoom (answered_by (blocks card * 32768) (cut_down card))) s);
+          answer = sym (ap (λ (b : Bool). cond b (Err no_room) (answered_by (blocks card * 32768) (cut_down card))) s);
           buffer_left = sym (ap (λ (b : Bool). cond b out (written_by card out (cut_down card))) s);
         }
 
@@ -238,14 +241,14 @@ module _ (card out : List ℕ) where
           ap₂ (λ (x : List ℕ) (k : ℕ). x ++ drop k out) (fresh_in qs) (e ∙ sym (fresh_long card qs readout_scratch (was_done card qs d).taken))
           ∙ sym (put_first out (fresh_card card qs))
 
-      pub in_the_buffer : (r : Cutdown) (target' : List ℕ) → CutSizedKept card (take n out) r target' → CutKept card out r (target' ++ drop n out)
+      pub in_the_buffer : (r : Result ℕ NotCut) (target' : List ℕ) → CutSizedKept card (take n out) r target' → CutKept card out r (target' ++ drop n out)
       unfolding cut_answer cut_left
       in_the_buffer r target' w =
           record {
             typed = λ f. subst CutTyped same w.typed;
             answer =
                 w.answer ∙ ap₂ answered_by (length-take-le n out l ∙ e) same
-                ∙ sym (ap (λ (b : Bool). cond b NoRoom (answered_by (blocks card * 32768) (cut_down card))) fits);
+                ∙ sym (ap (λ (b : Bool). cond b (Err no_room) (answered_by (blocks card * 32768) (cut_down card))) fits);
             buffer_left =
                 ap (λ (x : List ℕ). x ++ drop n out) (w.target_left ∙ ap (into_by (take n out)) same) ∙ left_by_lem (cut_down card) refl
                 ∙ sym (ap (λ (b : Bool). cond b out (written_by card out (cut_down card))) fits);

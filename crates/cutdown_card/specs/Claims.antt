@@ -9,8 +9,9 @@ use Rattle.queues.specs.Queues.{Queue}
 use Rattle.calls.specs.Replay.{left, replay_of}
 use Rattle.listing.specs.Listing.{listing}
 use Rattle.readout_text.specs.Card.{readout_scratch, readout_room, card_text}
-use Rattle.cutdown_card.specs.declared.Cutdown.{Cutdown}
-use Rattle.cutdown_card.specs.declared.Cutdown.TheVariants.{Written}
+use Rattle.std.specs.Prelude.{Result}
+use Rattle.cutdown_card.specs.declared.NotCut.{NotCut}
+use Rattle.std.specs.Prelude.Result.{Ok}
 use Rattle.cutdown_card.specs.Cutdown.{cut_to, cut_down, fresh_card, short_for, CutKept}
 
 -- What a card and its fresh one have in common: the queues that replay gives, with `readout`'s memory. So `readout` lists these for the fresh card, with nothing
@@ -26,7 +27,7 @@ pub record Refreshed (card fresh : List ℕ) : Type 0 where
 
 -- "Before a unit goes back into its crate the site wants a fresh log with no deleted history": of every card that is not refused, whatever the buffer held
 abbrev pub CutdownRefreshes : Type 0
-CutdownRefreshes = (card out out' : List ℕ) (n : ℕ) → Bytes card → CutKept card out (Written n) out' → Refreshed card (take n out')
+CutdownRefreshes = (card out out' : List ℕ) (n : ℕ) → Bytes card → CutKept card out (Ok n) out' → Refreshed card (take n out')
 
 -- a buffer of 65,536 bytes is never too short
 abbrev pub CutdownHasRoom : Type 0
@@ -34,4 +35,4 @@ CutdownHasRoom = (card : List ℕ) (room : ℕ) → 65536 ≤ room → short_for
 
 -- what is answered lies in the buffer that is left
 abbrev pub CutdownInside : Type 0
-CutdownInside = (card out out' : List ℕ) (r : Cutdown) (n : ℕ) → r ≡ Written n → CutKept card out r out' → n ≤ length out'
+CutdownInside = (card out out' : List ℕ) (r : Result ℕ NotCut) (n : ℕ) → r ≡ Ok n → CutKept card out r out' → n ≤ length out'

@@ -4,12 +4,12 @@
 mod card;
 mod parts;
 
+use calls::Refusal;
 pub use card::cut_down;
 
-// What became of a card: this many bytes of the buffer are the fresh one; replay or the copy refused it; or the buffer is too short for its blocks.
-#[derive(Clone, Copy)]
-pub enum Cutdown {
-    Written(usize),
-    Refused(u64),
+// Why there is no fresh card: replay or the copy refused it, or the buffer is too short for its blocks.
+#[derive(Clone, Copy, PartialEq, Eq)]
+pub enum NotCut {
+    Refused(Refusal),
     NoRoom,
 }

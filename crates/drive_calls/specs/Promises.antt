@@ -3,7 +3,7 @@
 -- Assumes nothing.
 use Rattle.std.specs.Prelude.{◌≡◌, List, ℕ, ◌≤◌, length}
 use Rattle.slices.specs.Bytes.{Bytes}
-use Rattle.listing.specs.declared.Listed.TheVariants.{Bytes as bytes}
+use Rattle.std.specs.Prelude.Option.{Some}
 use Rattle.listing.specs.Writing.{listed}
 use Rattle.readout_text.specs.Card.{card_text}
 use Rattle.drive_calls.specs.Driven.{driven, listing_of, drive_text}
@@ -17,4 +17,4 @@ abbrev pub DriveShort : Type 0
 DriveShort = (input : List ℕ) → Bytes input → length (drive_text input) ≤ 247570
 
 abbrev pub DriveRoom : Type 0
-DriveRoom = (input : List ℕ) (room : ℕ) → Bytes input → 247570 ≤ room → listed room (length (drive_text input)) ≡ bytes (length (drive_text input))
+DriveRoom = (input : List ℕ) (room : ℕ) → Bytes input → 247570 ≤ room → listed room (length (drive_text input)) ≡ Some (length (drive_text input))

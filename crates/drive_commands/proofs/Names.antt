@@ -1,17 +1,15 @@
 -- Zero bytes cut off at a name's end, one after another.
 -- Assumes nothing.
 use mathlib.Core.Path.{◌≡◌, refl, sym, ap, ◌∙◌}
-use mathlib.Core.Bool.{Bool, true, false, cond, ◌&&◌}
+use mathlib.Core.Bool.{Bool, false, cond}
 use mathlib.Core.List.{List, [], ◌∷◌, ◌++◌}
 use Prim.Native.Nat.{ℕ, suc, ◌-◌, ◌≤◌, ◌<◌}
 use native.Mathlib.Omega.{arith}
-use lib.Dec.{eqb, ltb}
+use lib.Dec.{eqb}
 use lib.ListN.{length, take, get_or}
 use lib.Seq.{take-suc}
-use borrow.Author.Tests.{ltb-true, ltb-false, eqb-true}
-use Rattle.queues.proofs.Both.{and_left, and_right}
+use borrow.Author.Tests.{ne_eqb}
 use Rattle.drive_commands.specs.Commands.{trim_on, trimmed}
-use Rattle.drive_commands.specs.Internal.{ends_in_zero}
 
 -- ---- one byte at the end
 
@@ -43,21 +41,13 @@ module _ (xs : List ℕ) where
       ap (λ (k : ℕ). take k xs) (sym e) ∙ take-suc xs (n - 1) 0 (omega (arith, h, l))
 
   -- a zero at the end is cut off
-  pub cut_one : (n : ℕ) → n ≤ length xs → ends_in_zero xs n ≡ true → (0 < n) × (trimmed (take (n - 1) xs) ≡ trimmed (take n xs))
-  unfolding ends_in_zero
-  cut_one n l e =
-      let h : 0 < n = ltb-true 0 n (and_left (ltb 0 n) (eqb (get_or xs (n - 1) 0) 0) e) in
-      let z : get_or xs (n - 1) 0 ≡ 0 = eqb-true (get_or xs (n - 1) 0) 0 (and_right (ltb 0 n) (eqb (get_or xs (n - 1) 0) 0) e) in
-      (h, sym (ap trimmed (last_of_lem n h l ∙ ap (λ (b : ℕ). take (n - 1) xs ++ (b ∷ [])) z) ∙ trim_zero (take (n - 1) xs)))
+  pub cut_one : (n : ℕ) → n ≤ length xs → 0 < n → get_or xs (n - 1) 0 ≡ 0 → trimmed (take (n - 1) xs) ≡ trimmed (take n xs)
+  cut_one n l h z = sym (ap trimmed (last_of_lem n h l ∙ ap (λ (b : ℕ). take (n - 1) xs ++ (b ∷ [])) z) ∙ trim_zero (take (n - 1) xs))
 
   -- where no zero ends them, they are the name
-  pub cut_all : (n : ℕ) → n ≤ length xs → ends_in_zero xs n ≡ false → trimmed (take n xs) ≡ take n xs
-  unfolding ends_in_zero trimmed
-  cut_all n l e = by (ltb 0 n) refl
-    where
-      by : (t : Bool) → ltb 0 n ≡ t → trimmed (take n xs) ≡ take n xs
-      by true h =
-          let p : 0 < n = ltb-true 0 n h in
-          let f : eqb (get_or xs (n - 1) 0) 0 ≡ false = sym (ap (λ (t : Bool). t && eqb (get_or xs (n - 1) 0) 0) h) ∙ e in
-          ap trimmed (last_of_lem n p l) ∙ trim_other (take (n - 1) xs) (get_or xs (n - 1) 0) f ∙ sym (last_of_lem n p l)
-      by false h = let z : n ≡ 0 = omega (arith, ltb-false 0 n h) in ap (λ (k : ℕ). trimmed (take k xs)) z ∙ sym (ap (λ (k : ℕ). take k xs) z)
+  pub cut_none : (n : ℕ) → n ≡ 0 → trimmed (take n xs) ≡ take n xs
+  unfolding trimmed
+  cut_none n z = ap (λ (k : ℕ). trimmed (take k xs)) z ∙ sym (ap (λ (k : ℕ). take k xs) z)
+
+  pub cut_all : (n : ℕ) → n ≤ length xs → 0 < n → (get_or xs (n - 1) 0 ≡ 0 → ⊥) → trimmed (take n xs) ≡ take n xs
+  cut_all n l p f = ap trimmed (last_of_lem n p l) ∙ trim_other (take (n - 1) xs) (get_or xs (n - 1) 0) (ne_eqb (get_or xs (n - 1) 0) 0 f) ∙ sym (last_of_lem n p l)

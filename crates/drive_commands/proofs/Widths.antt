@@ -1,41 +1,41 @@
 -- The width of a command's operands, whether a command stands at a place, and the position that an append names.
 -- Assumes nothing.
-use mathlib.Core.Path.{◌≡◌, sym, ap, ◌∙◌}
-use mathlib.Core.Bool.{Bool, false, cond, ◌&&◌}
+use mathlib.Core.Path.{◌≡◌, refl, sym, ap, ◌∙◌}
+use mathlib.Core.Bool.{Bool, true, false, cond, not, ◌&&◌}
 use mathlib.Core.List.{List}
 use Prim.Native.Nat.{ℕ, suc, ◌-◌, ◌≤◌, ◌<◌}
 use native.Mathlib.Omega.{arith}
-use lib.Dec.{eqb, ltb, leb}
+use lib.Dec.{ltb, leb, eqb}
 use lib.ListN.{length, drop, get_or, length-drop, drop_of_length-le}
 use lib.Seq.{drop-cons}
-use borrow.Author.Tests.{lt-ltb, eq-eqb, ne_eqb}
+use borrow.Author.Tests.{lt-ltb}
 use Rattle.queues.specs.Queues.{no_position, at}
-use Rattle.call_decide.specs.declared.AtPosition.TheVariants.{Next, Named}
+use Rattle.std.specs.Prelude.{Option, Some, None}
 use Rattle.call_decide.specs.Request.{position_of}
 use Rattle.drive_commands.specs.Commands.{position_by, width, is_command}
-use Rattle.drive_commands.specs.Internal.{starts_command, ends_in_zero}
-
--- ---- the width
-
-module _ (b : ℕ) where
-  pub width_is : (k : ℕ) → b ≡ k → width k ≡ width b
-  width_is k e = sym (ap width e)
-
-  pub width_none : (b ≡ 1 → ⊥) → (b ≡ 2 → ⊥) → (b ≡ 3 → ⊥) → (b ≡ 4 → ⊥) → 0 ≡ width b
-  unfolding width
-  width_none h i j k = simp (ne_eqb b 1 h, ne_eqb b 2 i, ne_eqb b 3 j, ne_eqb b 4 k)
+use Rattle.drive_commands.specs.Internal.{byte_of, starts_command}
+use Rattle.drive_commands.specs.declared.Command.{Command}
+use Rattle.drive_commands.specs.declared.Command.TheVariants.{Create, Append, Truncate, Delete}
 
 -- ---- whether a command stands there
 
 abbrev fits : ℕ → ℕ → Bool
 fits w left = ltb 0 w && leb w left
 
-pub unknown : (b n left : ℕ) → n ≡ width b → n ≡ 0 → false ≡ fits (width b) left
-unknown b n left e z = sym (ap (λ (w : ℕ). fits w left) (sym e ∙ z))
+-- each command has operands
+pub wide : (k : Command) → 0 < width (byte_of k)
+unfolding width
+wide Create = omega arith
+wide Append = omega arith
+wide Truncate = omega arith
+wide Delete = omega arith
 
-pub known : (b n left : ℕ) → n ≡ width b → (n ≡ 0 → ⊥) → leb n left ≡ fits (width b) left
-known b n left e h =
-    ap (λ (w : ℕ). leb w left) e ∙ sym (ap (λ (t : Bool). t && leb (width b) left) (lt-ltb 0 (width b) (omega (arith, e, h))))
+pub unknown : (b left : ℕ) → width b ≡ 0 → false ≡ fits (width b) left
+unknown b left z = sym (ap (λ (w : ℕ). fits w left) z)
+
+pub known : (b n left : ℕ) → 0 < width b → n ≡ width b → leb n left ≡ fits (width b) left
+known b n left h e =
+    ap (λ (w : ℕ). leb w left) e ∙ sym (ap (λ (t : Bool). t && leb (width b) left) (lt-ltb 0 (width b) h))
 
 module _ (input : List ℕ) (p : ℕ) where
   pub none_there : length input ≤ p → false ≡ starts_command (drop p input)
@@ -48,22 +48,12 @@ module _ (input : List ℕ) (p : ℕ) where
       let n : length input - p - 1 ≡ length (drop (suc p) input) = omega (arith, length-drop (suc p) input) in
       e ∙ ap (fits (width (get_or input p 0))) n ∙ sym (ap starts_command (drop-cons input p 0 h))
 
--- ---- zeros at a name's end
-
-pub ends_not : (xs : List ℕ) (n : ℕ) → n ≡ 0 → false ≡ ends_in_zero xs n
-unfolding ends_in_zero
-ends_not xs n e = sym (ap (λ (k : ℕ). ltb 0 k && eqb (get_or xs (k - 1) 0) 0) e)
-
-pub ends_as : (xs : List ℕ) (n : ℕ) → (n ≡ 0 → ⊥) → eqb (get_or xs (n - 1) 0) 0 ≡ ends_in_zero xs n
-unfolding ends_in_zero
-ends_as xs n h = sym (ap (λ (t : Bool). t && eqb (get_or xs (n - 1) 0) 0) (lt-ltb 0 n (omega (arith, h))))
-
 -- ---- the position of an append
 
-pub none_named : (p q : ℕ) → p ≡ q → p ≡ 0xFFFFFFFFFFFFFFFF → position_of Next ≡ position_by q
-unfolding position_of position_by
-none_named p q e z = sym (ap (λ (t : Bool). cond t no_position (at q)) (eq-eqb q 0xFFFFFFFFFFFFFFFF (sym e ∙ z)))
-
-pub one_named : (p q : ℕ) → p ≡ q → (p ≡ 0xFFFFFFFFFFFFFFFF → ⊥) → position_of (Named p) ≡ position_by q
-unfolding position_of position_by
-one_named p q e h = ap at e ∙ sym (ap (λ (t : Bool). cond t no_position (at q)) (ne_eqb q 0xFFFFFFFFFFFFFFFF (λ z. h (e ∙ z))))
+pub named : (p q : ℕ) (x : Option ℕ) → x ≡ cond (not (eqb p 0xFFFFFFFFFFFFFFFF)) (Some p) None → p ≡ q → position_of x ≡ position_by q
+unfolding position_by
+named p q x h e = ap position_of h ∙ by (eqb p 0xFFFFFFFFFFFFFFFF) ∙ ap (λ (n : ℕ). cond (eqb n 0xFFFFFFFFFFFFFFFF) no_position (at n)) e
+  where
+    by : (t : Bool) → position_of (cond (not t) (Some p) None) ≡ cond t no_position (at p)
+    by true = refl
+    by false = refl

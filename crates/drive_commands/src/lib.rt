@@ -5,6 +5,13 @@ mod line;
 mod operands;
 
 pub use line::{put_line, put_refused};
-pub use operands::{
-    APPEND, CREATE, TRUNCATE, at_position, name_len, number_in, starts_command, width,
-};
+pub use operands::{at_position, command_at, name_len, number_in};
+
+// A command, with its byte.
+#[derive(Clone, Copy, PartialEq, Eq)]
+pub enum Command {
+    Create = 1,
+    Append = 2,
+    Truncate = 3,
+    Delete = 4,
+}

@@ -1,80 +1,63 @@
-// The line of a command, written at a place of a lent buffer; the place behind it is answered.
+// The line of a command, behind what a text has.
 ghost use Rattle.std.specs.Prelude.{◌≡◌, ◌++◌};
-ghost use Rattle.contracts.specs.Numbers.{position_taken};
-ghost use Rattle.listing.specs.Internal.{Wrote};
+ghost use Rattle.call_decide.specs.Request.{position_of};
+ghost use Rattle.listing.specs.Internal.{SameOut, Puts};
 ghost use Rattle.listing.specs.Listing.{space, refusal};
 ghost use Rattle.drive_commands.specs.Lines.{position_text};
-ghost use Rattle.drive_commands.specs.Internal.{told_for, ok_for, line_for};
+ghost use Rattle.drive_commands.specs.Internal.{byte_of, told_for, ok_for, line_for};
 
-use crate::operands::{APPEND, TRUNCATE};
-use call_write::{Called, Last};
-use listing::{put_bytes, put_number_line, put_numbered};
+use crate::Command;
+use call_write::Called;
+use calls::Refusal;
+use listing::Text;
 
 // A space and the last position, '-' for none.
-fn put_last(out: &mut [u8], at: usize, last: Last) -> usize
-    ensures { Wrote out.old at (space ++ position_text (position_taken last)) result out.new }
+fn put_last(text: &mut Text, last: Option<u64>)
+    ensures same { SameOut text.old text.new }
+    ensures puts { Puts text.old (space ++ position_text (position_of last)) text.new }
 {
     match last {
-        Last::Nowhere => put_bytes(out, at, b" -"),
-        Last::At(position) => put_numbered(out, at, b" ", position),
+        None => text.put_bytes(b" -"),
+        Some(position) => text.put_numbered(b" ", position),
     }
 }
 
 // After an append the last position, after a truncate the evicted count, else nothing.
-fn put_told(out: &mut [u8], at: usize, command: u8, last: Last, evicted: u64) -> usize
-    ensures { Wrote out.old at (told_for command last evicted) result out.new }
+fn put_told(text: &mut Text, command: Command, called: Called)
+    ensures same { SameOut text.old text.new }
+    ensures puts { Puts text.old (told_for (byte_of command) called) text.new }
 {
-    if command == APPEND {
-        return put_last(out, at, last);
+    match command {
+        Command::Append => put_last(text, called.last),
+        Command::Truncate => text.put_numbered(b" ", called.evicted as u64),
+        _ => (),
     }
-    if command == TRUNCATE {
-        return put_numbered(out, at, b" ", evicted);
-    }
-    at
 }
 
-fn put_ok(
-    out: &mut [u8],
-    at: usize,
-    command: u8,
-    last: Last,
-    evicted: u64,
-    frame_bytes: u64,
-    padding_bytes: u64,
-) -> usize
-    ensures { Wrote out.old at (ok_for command last evicted frame_bytes padding_bytes) result out.new }
+fn put_ok(text: &mut Text, command: Command, called: Called)
+    ensures same { SameOut text.old text.new }
+    ensures puts { Puts text.old (ok_for (byte_of command) called) text.new }
 {
-    let p = put_bytes(out, at, b"ok");
-    let p = put_told(out, p, command, last, evicted);
-    let p = put_numbered(out, p, b" ", frame_bytes);
-    put_number_line(out, p, b" ", padding_bytes)
+    text.put_bytes(b"ok");
+    put_told(text, command, called);
+    text.put_numbered(b" ", called.frame_bytes as u64);
+    text.put_number_line(b" ", called.padding_bytes as u64);
 }
 
-pub fn put_refused(out: &mut [u8], at: usize, number: u64) -> usize
-    ensures { Wrote out.old at (refusal number) result out.new }
+pub fn put_refused(text: &mut Text, number: u64)
+    ensures same { SameOut text.old text.new }
+    ensures puts { Puts text.old (refusal number) text.new }
 {
-    put_number_line(out, at, b"refused ", number)
+    text.put_number_line(b"refused ", number);
 }
 
 // What the call of a command answered.
-pub fn put_line(out: &mut [u8], at: usize, command: u8, called: Called) -> usize
-    ensures { Wrote out.old at (line_for command called) result out.new }
+pub fn put_line(text: &mut Text, command: Command, answer: Result<Called, Refusal>)
+    ensures same { SameOut text.old text.new }
+    ensures puts { Puts text.old (line_for (byte_of command) answer) text.new }
 {
-    match called {
-        Called::Done {
-            last,
-            evicted,
-            frame_bytes,
-            padding_bytes,
-        } => put_ok(
-            out,
-            at,
-            command,
-            last,
-            evicted as u64,
-            frame_bytes as u64,
-            padding_bytes as u64,
-        ),
-        Called::Refused(number) => put_refused(out, at, number),
+    match answer {
+        Ok(called) => put_ok(text, command, called),
+        Err(refusal) => put_refused(text, refusal.number()),
     }
 }

@@ -5,7 +5,6 @@ use mathlib.Core.List.{List, [], ◌∷◌}
 use Prim.Native.Nat.{ℕ, ◌≤◌, ◌<◌}
 use native.Mathlib.Omega.{arith}
 use lib.ListN.{length}
-use borrow.Author.Tests.{ne_eqb}
 use Rattle.queues.specs.Queues.{Position}
 use Rattle.calls.specs.State.{Call, CallAnswer, create_call, delete_call, truncate_call, append_call}
 use Rattle.abi_call.specs.OnBytes.{LentBytes}
@@ -50,6 +49,6 @@ module _ (b : ℕ) (xs : List ℕ) where
     unfolding call_by
     truncate_is p h e = ap₂ truncate_call f h ∙ sym (ap (λ (c : ℕ). call_by c xs) e)
 
-    pub delete_is : (b ≡ 1 → ⊥) → (b ≡ 2 → ⊥) → (b ≡ 3 → ⊥) → delete_call n ≡ call_by b xs
+    pub delete_is : b ≡ 4 → delete_call n ≡ call_by b xs
     unfolding call_by
-    delete_is h i j = ap delete_call f ∙ sym (simp (ne_eqb b 1 h, ne_eqb b 2 i, ne_eqb b 3 j))
+    delete_is e = ap delete_call f ∙ sym (ap (λ (c : ℕ). call_by c xs) e)

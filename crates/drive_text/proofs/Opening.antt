@@ -75,7 +75,7 @@ opening_means scratch ns ps es ks d a b c k =
 
 pub drove : {input log scratch ns ps es ks log' out out' : List ℕ} {g' : LentBytes} {r : ℕ} → log ≡ zeros 65536
     → length scratch ≡ 65536 → length ns ≡ 32768 → length ps ≡ 32768 → length es ≡ 24576 → length ks ≡ 8192
-    → g'.log ≡ log' → Ran input (lent_bytes log 0 scratch ns ps es ks (zeros 1568)) g' out r out' → Drove input log' out r out'
+    → g'.log ≡ log' → Ran input (lent_bytes log 0 scratch ns ps es ks (zeros 1568)) g' out 0 r out' → Drove input log' out r out'
 unfolding state_of driven
 drove {input} {log} {scratch} {ns} {ps} {es} {ks} {g' = g'} e d a b c k f w =
     let s : state_of (lent_in (lent_bytes log 0 scratch ns ps es ks (zeros 1568))) ≡ opening =

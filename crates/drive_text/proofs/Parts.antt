@@ -11,8 +11,8 @@ use lib.Seq.{sets, sets-eq, take_at, length-take-le}
 use borrow.Author.Tests.{ltb-true, ltb-false, leb-true, leb-false, lt-ltb, le-ltb}
 use Rattle.slices.specs.Bytes.{Bytes, zeros}
 use Rattle.frame.proofs.Step.{drop-zeros}
-use Rattle.listing.specs.declared.Listed.{Listed}
-use Rattle.listing.specs.declared.Listed.TheVariants.{Bytes as bytes, NoRoom as no_room}
+use Rattle.std.specs.Prelude.{Option}
+use Rattle.std.specs.Prelude.Option.{Some, None}
 use Rattle.listing.specs.Writing.{written, listed}
 use Rattle.listing.specs.Internal.{behind, Wrote}
 use Rattle.listing.specs.Listing.{refusal}
@@ -21,46 +21,46 @@ use Rattle.readout_text.specs.Card.{card_text}
 use Rattle.readout_text.proofs.Sizes.{refused_as}
 use Rattle.drive_calls.specs.Driven.{driven, joined, drive_text, drive_log}
 use Rattle.drive_calls.proofs.Turns.{too_long_lem, drive_lists, log_is}
-use Rattle.drive_text.specs.Internal.{on_listed, SumFits, listed_behind, left_behind, Drove}
+use Rattle.drive_text.specs.Internal.{on_listed, listed_behind, left_behind, Drove}
 
 -- ---- the answer
 
-pub on_bytes : (at n : ℕ) (r : Listed) → r ≡ bytes n → bytes (at + n) ≡ on_listed at r
+pub on_some : (at n : ℕ) (r : Option ℕ) → r ≡ Some n → Some (at + n) ≡ on_listed at r
 unfolding on_listed
-on_bytes at n r e = sym (ap (on_listed at) e)
+on_some at n r e = sym (ap (on_listed at) e)
 
-pub on_none : (at : ℕ) (r : Listed) → r ≡ no_room → no_room ≡ on_listed at r
+pub on_none : (at : ℕ) (r : Option ℕ) → r ≡ None → None ≡ on_listed at r
 unfolding on_listed
 on_none at r e = sym (ap (on_listed at) e)
 
-pub sum_of : (at n : ℕ) (r : Listed) → r ≡ bytes n → SumFits at r → at + n < 2 ^ 64
-sum_of at n r e w = subst (SumFits at) e w
+-- a text that stands in a buffer of k bytes has at most k
+inside_by : (n k j : ℕ) (b : Bool) → leb j k ≡ b → Some n ≡ cond b (Some j) None → n ≤ k
+inside_by n k j true e f =
+    let d : n ≡ j = cc in
+    omega (arith, leb-true j k e, d)
+inside_by n k j false e f = absurd (cc)
 
-fits_by : (at n k : ℕ) → at ≤ n → n < 2 ^ 64 → (b : Bool) → leb k (n - at) ≡ b → SumFits at (cond b (bytes k) no_room)
-fits_by at n k h l true e = omega (arith, leb-true k (n - at) e)
-fits_by at n k h l false e = tt
-
-sum_fits : (at n k : ℕ) (r : Listed) → at ≤ n → n < 2 ^ 64 → r ≡ listed (n - at) k → SumFits at r
+pub listed_inside : (n k j : ℕ) → Some n ≡ listed k j → n ≤ k
 unfolding listed
-sum_fits at n k r h l e = subst (SumFits at) (sym e) (fits_by at n k h l (leb k (n - at)) refl)
+listed_inside n k j e = inside_by n k j (leb j k) refl e
 
 -- ---- a place past the buffer, and one in it
 
 module _ (out : List ℕ) (at : ℕ) (text : List ℕ) where
-  pub past : length out < at → (no_room ≡ listed_behind (length out) at text) × (out ≡ left_behind out at text)
+  pub past : length out < at → (None ≡ listed_behind (length out) at text) × (out ≡ left_behind out at text)
   unfolding listed_behind left_behind
   past h = (simp (lt-ltb (length out) at h), simp (lt-ltb (length out) at h))
 
-  pub in_it : (r x : Listed) (part : List ℕ) → at ≤ length out → x ≡ listed (length out - at) (length text) → r ≡ on_listed at x
+  pub in_it : (r x : Option ℕ) (part : List ℕ) → at ≤ length out → x ≡ listed (length out - at) (length text) → r ≡ on_listed at x
       → part ≡ written (zeros (length out - at)) 0 text → (r ≡ listed_behind (length out) at text) × (take at out ++ part ≡ left_behind out at text)
   unfolding listed_behind left_behind
   in_it r x part h e f g = (
-    f ∙ ap (on_listed at) e ∙ sym (ap (λ (t : Bool). cond t no_room (on_listed at (listed (length out - at) (length text)))) (le-ltb (length out) at h)),
+    f ∙ ap (on_listed at) e ∙ sym (ap (λ (t : Bool). cond t None (on_listed at (listed (length out - at) (length text)))) (le-ltb (length out) at h)),
     ap (λ (l : List ℕ). take at out ++ l) g ∙ sym (ap (λ (t : Bool). cond t out (take at out ++ written (zeros (length out - at)) 0 text)) (le-ltb (length out) at h)),
   )
 
   -- the part behind the place, lent and back
-  pub in_part : (r x : Listed) (ys : List ℕ) → at ≤ length out → x ≡ listed (length (take (length out - at) (drop at out))) (length text) → r ≡ on_listed at x
+  pub in_part : (r x : Option ℕ) (ys : List ℕ) → at ≤ length out → x ≡ listed (length (take (length out - at) (drop at out))) (length text) → r ≡ on_listed at x
       → ys ≡ written (zeros (length (take (length out - at) (drop at out)))) 0 text
       → (r ≡ listed_behind (length out) at text) × (take at out ++ (ys ++ drop (length out - at) (drop at out)) ≡ left_behind out at text)
   in_part r x ys h e f g =
@@ -69,10 +69,11 @@ module _ (out : List ℕ) (at : ℕ) (text : List ℕ) where
       let z : drop (length out - at) (drop at out) ≡ [] = drop_of_length-le (drop at out) {i = length out - at} (omega (arith, length-drop at out)) in
       (w.0, ap (λ (l : List ℕ). take at out ++ (ys ++ l)) z ∙ ap (λ (l : List ℕ). take at out ++ l) (append-nil ys) ∙ w.1)
 
-  pub part_fits : (x : Listed) → at ≤ length out → length out < 2 ^ 64 → x ≡ listed (length (take (length out - at) (drop at out))) (length text) → SumFits at x
-  part_fits x h l e =
-      let n : length (take (length out - at) (drop at out)) ≡ length out - at = length-take-le (length out - at) (drop at out) (omega (arith, length-drop at out)) in
-      sum_fits at (length out) (length text) x h l (e ∙ ap (λ (m : ℕ). listed m (length text)) n)
+  pub part_fits : (x : Option ℕ) (n : ℕ) → at ≤ length out → x ≡ listed (length (take (length out - at) (drop at out))) (length text) → x ≡ Some n → at + n ≤ length out
+  part_fits x n h e f =
+      let l : length (take (length out - at) (drop at out)) ≡ length out - at = length-take-le (length out - at) (drop at out) (omega (arith, length-drop at out)) in
+      let k : n ≤ length (take (length out - at) (drop at out)) = listed_inside n (length (take (length out - at) (drop at out))) (length text) (sym f ∙ e) in
+      omega (arith, h, l, k)
 
 -- ---- both parts
 
@@ -105,7 +106,7 @@ listed-add n at k h =
     (λ yes. let l : k ≤ n - at = leb-true k (n - at) yes in ap (on_listed at) (sym (listed-whole (n - at) k l)) ∙ listed-whole n (at + k) (omega (arith, l, h)))
     (λ no. let l : n - at < k = leb-false k (n - at) no in ap (on_listed at) (sym (listed_no_room (n - at) k l)) ∙ listed_no_room n (at + k) (omega (arith, l, h)))
 
-never_both : (n k : ℕ) → no_room ≡ bytes k → ⊥
+never_both : (n k : ℕ) → None ≡ Some k → ⊥
 never_both n k e = let z : ◌≡◌ {A = ℕ} 0 1 = cc in omega arith
 
 -- a place past the buffer tells that the text did not fit
@@ -157,7 +158,7 @@ module _ (n : ℕ) (t : List ℕ) (at : ℕ) (out : List ℕ) (w : Wrote (zeros 
 
 -- ---- the whole
 
-pub printed : (input out₀ log₀ : List ℕ) {out₁ log' out₂ out₃ : List ℕ} {at : ℕ} {r : Listed} → Bytes input → length input ≤ 65536 → out₁ ≡ zeros (length out₀)
+pub printed : (input out₀ log₀ : List ℕ) {out₁ log' out₂ out₃ : List ℕ} {at : ℕ} {r : Option ℕ} → Bytes input → length input ≤ 65536 → out₁ ≡ zeros (length out₀)
     → Drove input log' out₁ at out₂ → (r ≡ listed_behind (length out₂) at (card_text log')) × (out₃ ≡ left_behind out₂ at (card_text log'))
     → (r ≡ listed (length out₀) (length (drive_text input))) × ((out₃ ≡ written (zeros (length out₀)) 0 (drive_text input)) × (log' ≡ drive_log input log₀))
 printed input out₀ log₀ {log' = log'} {out₂ = out₂} {at = at} b l e d w =
@@ -172,7 +173,7 @@ printed input out₀ log₀ {log' = log'} {out₂ = out₂} {at = at} b l e d w 
     )
 
 -- an input that is too long
-pub refused_so : (input out₀ log₀ : List ℕ) {out₁ out₂ : List ℕ} {r : Listed} → 65536 < length input → out₁ ≡ zeros (length out₀)
+pub refused_so : (input out₀ log₀ : List ℕ) {out₁ out₂ : List ℕ} {r : Option ℕ} → 65536 < length input → out₁ ≡ zeros (length out₀)
     → (r ≡ listed (length out₁) (length (refusal 1))) × (out₂ ≡ written out₁ 0 (refusal 1))
     → (r ≡ listed (length out₀) (length (drive_text input))) × ((out₂ ≡ written (zeros (length out₀)) 0 (drive_text input)) × (log₀ ≡ drive_log input log₀))
 refused_so input out₀ log₀ l e w =

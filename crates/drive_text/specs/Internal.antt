@@ -1,15 +1,14 @@
 -- Helper: for proofs; no promise rests on reading it.
 -- What the functions between the input and its text answer and leave.
 -- Assumes nothing.
-use Rattle.std.specs.Prelude.{◌≡◌, cond, List, [], ◌∷◌, ◌++◌, ℕ, ◌+◌, ◌-◌, ◌^◌, ◌<◌, ltb, length, take, drop, get_or}
+use Rattle.std.specs.Prelude.{◌≡◌, cond, List, [], ◌∷◌, ◌++◌, Option, ℕ, ◌+◌, ◌-◌, ltb, length, take, drop, get_or}
 use Rattle.slices.specs.Bytes.{zeros}
 use Rattle.calls.specs.State.{Call}
 use Rattle.calls.specs.Calls.{call_of}
 use Rattle.contracts.specs.Promises.{state_of}
 use Rattle.abi_call.specs.OnBytes.{LentBytes}
 use Rattle.abi_tables.specs.Tables.{lent_in}
-use Rattle.listing.specs.declared.Listed.{Listed}
-use Rattle.listing.specs.declared.Listed.TheVariants.{Bytes as bytes, NoRoom as no_room}
+use Rattle.std.specs.Prelude.Option.{Some, None}
 use Rattle.listing.specs.Writing.{written, listed}
 use Rattle.listing.specs.Internal.{Wrote}
 use Rattle.listing.specs.Listing.{refusal}
@@ -36,8 +35,8 @@ pub record Turned (input : List ℕ) (p : ℕ) (g g' : LentBytes) (out : List �
   pub line : Wrote out at (line_of (state_of (lent_in g)) asked) r out'
 
 -- all commands
-pub record Ran (input : List ℕ) (g g' : LentBytes) (out : List ℕ) (r : ℕ) (out' : List ℕ) : Type 0 where
-  pub lines : Wrote out 0 (lines_from (state_of (lent_in g)) input) r out'
+pub record Ran (input : List ℕ) (g g' : LentBytes) (out : List ℕ) (at r : ℕ) (out' : List ℕ) : Type 0 where
+  pub lines : Wrote out at (lines_from (state_of (lent_in g)) input) r out'
   pub state : state_of (lent_in g') ≡ state_from (state_of (lent_in g)) input
 
 -- all commands, from the start that `drive` has
@@ -47,17 +46,12 @@ pub record Drove (input log' out : List ℕ) (r : ℕ) (out' : List ℕ) : Type 
 
 -- ---- a text behind what stands in a buffer up to a place
 
-unfoldable pub on_listed : ℕ → Listed → Listed
-on_listed at (bytes n) = bytes (at + n)
-on_listed at no_room = no_room
+unfoldable pub on_listed : ℕ → Option ℕ → Option ℕ
+on_listed at (Some n) = Some (at + n)
+on_listed at None = None
 
--- the answer is a number of a word
-abbrev pub SumFits : ℕ → Listed → Type 0
-SumFits at (bytes n) = at + n < 2 ^ 64
-SumFits at no_room = Unit {0}
-
-unfoldable pub listed_behind : ℕ → ℕ → List ℕ → Listed
-listed_behind n at text = cond (ltb n at) no_room (on_listed at (listed (n - at) (length text)))
+unfoldable pub listed_behind : ℕ → ℕ → List ℕ → Option ℕ
+listed_behind n at text = cond (ltb n at) None (on_listed at (listed (n - at) (length text)))
 
 unfoldable pub left_behind : List ℕ → ℕ → List ℕ → List ℕ
 left_behind out at text = cond (ltb (length out) at) out (take at out ++ written (zeros (length out - at)) 0 text)

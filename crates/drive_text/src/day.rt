@@ -4,11 +4,11 @@ ghost use Rattle.slices.specs.Bytes.{zeros};
 ghost use Rattle.listing.specs.Writing.{written, listed};
 ghost use Rattle.readout_text.specs.Card.{card_text};
 ghost use Rattle.drive_calls.specs.Driven.{drive_text, drive_log};
-ghost use Rattle.drive_text.specs.Internal.{Drove, on_listed, SumFits, listed_behind, left_behind};
+ghost use Rattle.drive_text.specs.Internal.{Drove, listed_behind, left_behind};
 
 use crate::run::run;
-use calls::Refusal;
-use listing::{Listed, refused};
+use listing::{Text, refused};
+use multi_record_log::{LogWriter, QueueMemory, Refusal};
 use readout_text::list_card;
 use slices::clear;
 
@@ -26,52 +26,43 @@ fn drive_zeroed(input: &[u8], log: &mut [u8], out: &mut [u8]) -> usize
     let mut entries = [0u8; 24576];
     let mut largest = [0u8; 8192];
     let mut table = [0u8; 1568];
-    run(
-        input,
+    let mut writer = LogWriter {
         log,
-        &mut write_position,
-        &mut scratch,
-        &mut names,
-        &mut payloads,
-        &mut entries,
-        &mut largest,
-        &mut table,
-        out,
-    )
-}
-
-// The answer for a text whose last part starts at a place of the buffer and was answered so.
-fn from(at: usize, rest: Listed) -> Listed
-    requires { SumFits at rest }
-    ensures { result ≡ on_listed at rest }
-{
-    match rest {
-        Listed::Bytes(n) => Listed::Bytes(at + n),
-        Listed::NoRoom => Listed::NoRoom,
-    }
+        write_position: &mut write_position,
+        scratch: &mut scratch,
+    };
+    let mut memory = QueueMemory {
+        names: &mut names,
+        payloads: &mut payloads,
+        entries: &mut entries,
+        largest: &mut largest,
+        table: &mut table,
+    };
+    let mut text = Text { out, at: 0 };
+    run(input, &mut writer, &mut memory, &mut text);
+    text.at
 }
 
 // The listing of a log behind what stands in the buffer up to a place.
-fn list_behind(log: &[u8], out: &mut [u8], at: usize) -> Listed
+fn list_behind(log: &[u8], out: &mut [u8], at: usize) -> Option<usize>
     ensures { (result ≡ listed_behind (length out.old) at (card_text log.now))
         × (out.new ≡ left_behind out.old at (card_text log.now)) }
 {
     if out.len() < at {
-        return Listed::NoRoom;
+        return None;
     }
-    let rest = list_card(log, &mut out[at..]);
-    from(at, rest)
+    Some(at + list_card(log, &mut out[at..])?)
 }
 
 // What `drive` prints for an input, with zeros after it, and the log that the calls leave. An input that is too long leaves the log as it was.
-pub fn drive(input: &[u8], log: &mut [u8; 65536], out: &mut [u8]) -> Listed
+pub fn drive(input: &[u8], log: &mut [u8; 65536], out: &mut [u8]) -> Option<usize>
     ensures { (result ≡ listed (length out.old) (length (drive_text input.now)))
         × ((out.new ≡ written (zeros (length out.old)) 0 (drive_text input.now))
         × (log.new ≡ drive_log input.now log.old)) }
 {
     clear(out);
     if MAX_INPUT_LEN < input.len() {
-        return refused(out, Refusal::LOG_SIZE);
+        return refused(out, Refusal::LogSize.number());
     }
     clear(log);
     let at = drive_zeroed(input, log, out);

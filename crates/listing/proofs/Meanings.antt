@@ -3,11 +3,13 @@
 use mathlib.Core.Path.{◌≡◌, refl, sym, ap, ap₂, ◌∙◌}
 use mathlib.Core.Bool.{Bool, true, false, cond, ◌&&◌}
 use mathlib.Core.List.{List, [], ◌∷◌, ◌++◌, append_assoc, append-nil}
-use Prim.Native.Nat.{ℕ, zero, suc, ◌+◌, ◌≤◌}
+use Prim.Native.Nat.{ℕ, zero, suc, ◌+◌, ◌≤◌, ◌<◌}
 use native.Mathlib.Omega.{arith}
 use lib.Dec.{eqb}
 use lib.ListN.{length, take, drop, get_or, length-append}
 use borrow.Author.Tests.{eqb-true}
+use Rattle.std.specs.Prelude.{Option}
+use Rattle.std.proofs.lemmas.List.Sums.{count_by_more_yes, count_by_more_no}
 use Rattle.record.specs.Record.{Item, item}
 use Rattle.queues.specs.declared.RecordEntry.{RecordEntry}
 use Rattle.queues.specs.Queues.{Queue, next}
@@ -18,11 +20,11 @@ use Rattle.queues.proofs.Both.{and_left, and_right}
 use Rattle.queues.proofs.ArrangedFacts.{Arrangement, arranged_arrangement}
 use Rattle.queues.proofs.SumsHeld.{queues_held_lem}
 use Rattle.queues.proofs.Passes.{items, one, items_more, word_is, behind-row, from, here, from_next}
-use Rattle.listing.specs.Writing.{written, listed}
-use Rattle.listing.specs.Internal.{behind, Wrote}
+use Rattle.listing.specs.Writing.{listed}
+use Rattle.listing.specs.Internal.{behind, Wrote, ListsFrom}
 use Rattle.listing.specs.Listing.{queues_word, number_line, head_line, queue_line, record_line, record_lines, queue_lines, end_lines, listing}
-use Rattle.listing.specs.Passes.{row_line, entry_line, counted, count_to, lines_to, queue_text, queues_to}
-use Rattle.listing.proofs.Writes.{length-written, wrote, on, reads}
+use Rattle.listing.specs.Passes.{row_line, entry_line, count_to, lines_to, queue_text, queues_to}
+use Rattle.listing.proofs.Writes.{by_test, wrote-length, wrote, on, reads}
 
 -- ---- the entries of one queue
 
@@ -40,13 +42,20 @@ module _ (k : ℕ) (es : List RecordEntry) (ps : List ℕ) where
       on_test true = append-nil (record_line (item e.position (take e.length (drop p ps))))
       on_test false = refl
 
-  one_count : (e : RecordEntry) (p n : ℕ) → n + length (one k es ps e p) ≡ counted k e n
-  unfolding counted items_of arrivals
+  one_count : (e : RecordEntry) (p n : ℕ) → n + length (one k es ps e p) ≡ cond (eqb e.queue k) (n + 1) n
+  unfolding items_of arrivals
   one_count e p n = on_test (eqb e.queue k)
     where
       on_test : (b : Bool) → n + length (cond b (item e.position (take e.length (drop p ps)) ∷ []) []) ≡ cond b (n + 1) n
       on_test true = refl
       on_test false = omega arith
+
+  count_more : (n : ℕ) → n < length es → cond (eqb (get_or es n blank).queue k) (count_to k es n + 1) (count_to k es n) ≡ count_to k es (suc n)
+  count_more n h =
+      let e : n + 1 ≡ suc n = omega arith in
+      by_test (eqb (get_or es n blank).queue k)
+      (λ yes. simp yes (sym (count_by_more_yes (λ (x : RecordEntry). eqb x.queue k) es n blank h yes) ∙ ap (count_to k es) e))
+      (λ no. simp no (sym (count_by_more_no (λ (x : RecordEntry). eqb x.queue k) es n blank h no) ∙ ap (count_to k es) e))
 
   lines_are : (n : ℕ) → n ≤ length es → record_lines (items k es ps n) ≡ lines_to k es ps n
   unfolding lines_to record_lines items_of arrivals
@@ -56,12 +65,12 @@ module _ (k : ℕ) (es : List RecordEntry) (ps : List ℕ) where
       ∙ ap₂ (λ (a b : List ℕ). a ++ b) (lines_are n (omega arith)) (one_line (get_or es n blank) (passed_to es n))
 
   count_are : (n : ℕ) → n ≤ length es → length (items k es ps n) ≡ count_to k es n
-  unfolding count_to items_of arrivals
+  unfolding items_of arrivals
   count_are zero h = refl
   count_are (suc n) h =
       ap length (items_more k es ps n (omega arith)) ∙ length-append (items k es ps n) (one k es ps (get_or es n blank) (passed_to es n))
       ∙ ap (λ (a : ℕ). a + length (one k es ps (get_or es n blank) (passed_to es n))) (count_are n (omega arith))
-      ∙ one_count (get_or es n blank) (passed_to es n) (count_to k es n)
+      ∙ one_count (get_or es n blank) (passed_to es n) (count_to k es n) ∙ count_more n (omega arith)
 
 -- ---- the queues from row j on
 module _ (ns ps : List ℕ) (es : List RecordEntry) (t : List ℕ) (n : ℕ) (h : n ≤ length es) where
@@ -120,34 +129,12 @@ module _ (m : Memory) (a : arranged m ≡ true) where
 -- ---- three pieces, written from a place of the buffer on
 
 -- the answer for the last place, and what is left in the buffer, are those of the whole text
-module _ (s : List ℕ) (p : ℕ) (xs ys zs text : List ℕ) where
-  abbrev first : List ℕ
-  first = written s p xs
-
-  abbrev at_first : ℕ
-  at_first = behind (length s) p (length xs)
-
-  abbrev second : List ℕ
-  second = written first at_first ys
-
-  abbrev at_second : ℕ
-  at_second = behind (length first) at_first (length ys)
-
-  abbrev pub Pieces : Type 0
-  Pieces =
-      (listed (length second) (behind (length second) at_second (length zs)) ≡ listed (length s) (behind (length s) p (length text)))
-      × (written second at_second zs ≡ written s p text)
-
-  pieces : xs ++ (ys ++ zs) ≡ text → Pieces
-  pieces e =
-      let two : Wrote first at_first (ys ++ zs) (behind (length second) at_second (length zs)) (written second at_second zs) =
-      on (wrote {xs = ys} refl refl) (wrote {xs = zs} refl refl) in
-      let all : Wrote s p text (behind (length second) at_second (length zs)) (written second at_second zs) = reads e (on (wrote {xs = xs} refl refl) two) in
-      let long : length second ≡ length s = length-written first at_first ys ∙ length-written s p xs in
-      (ap₂ listed long all.place, all.buffer)
-
-pub list_is : (ns ps : List ℕ) (es : List RecordEntry) (t : List ℕ) (lost resumed bytes : ℕ) (s : List ℕ) (p : ℕ) → arranged (memory ns ps es t) ≡ true
-    → Pieces s p (number_line queues_word (queues_held t)) (queues_to ns ps es t (records_held t) (queues_held t)) (end_lines lost resumed bytes) (listing (meaning (memory ns ps es t)) lost resumed bytes)
-list_is ns ps es t lost resumed bytes s p a =
-    pieces s p (number_line queues_word (queues_held t)) (queues_to ns ps es t (records_held t) (queues_held t)) (end_lines lost resumed bytes) (listing (meaning (memory ns ps es t)) lost resumed bytes)
-    (text_means (memory ns ps es t) a lost resumed bytes)
+pub list_on : {s a b u : List ℕ} {p q r : ℕ} (ns ps : List ℕ) (es : List RecordEntry) (t : List ℕ) (lost resumed bytes : ℕ) (x : Option ℕ) → arranged (memory ns ps es t) ≡ true
+    → Wrote s p (number_line queues_word (queues_held t)) q a → Wrote a q (queues_to ns ps es t (records_held t) (queues_held t)) r b
+    → ListsFrom b r (end_lines lost resumed bytes) x u → ListsFrom s p (listing (meaning (memory ns ps es t)) lost resumed bytes) x u
+list_on {s} {a} {b} {u} {p} {q} {r} ns ps es t lost resumed bytes x arr w v l =
+    let ends : List ℕ = end_lines lost resumed bytes in
+    let last : Wrote b r ends (behind (length b) r (length ends)) u = wrote refl l.1 in
+    let all : Wrote s p (listing (meaning (memory ns ps es t)) lost resumed bytes) (behind (length b) r (length ends)) u =
+    reads (text_means (memory ns ps es t) arr lost resumed bytes) (on w (on v last)) in
+    (l.0 ∙ ap₂ listed (wrote-length v ∙ wrote-length w) all.place, all.buffer)

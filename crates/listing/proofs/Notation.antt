@@ -1,17 +1,18 @@
 -- Decimal and hex, digit by digit.
 -- Assumes nothing.
-use mathlib.Core.Path.{◌≡◌, refl, sym, ap, ap₂, ◌∙◌}
+use mathlib.Core.Path.{◌≡◌, refl, sym, ap, ap₂, subst, ◌∙◌}
 use mathlib.Core.List.{List, [], ◌∷◌, ◌++◌}
 use Prim.Native.Nat.{ℕ, zero, suc, ◌+◌, ◌/◌, ◌%◌, ◌≤◌, ◌<◌}
 use native.Mathlib.Numerals.{add-one}
 use native.Mathlib.Omega.{arith}
 use lib.Dec.{ltb}
 use lib.ListN.{length, take, get_or}
-use lib.Seq.{take-suc, take_all}
+use lib.Seq.{take-suc}
 use borrow.Author.Tests.{ltb-true, ltb-false, lt-ltb, le-ltb}
 use Rattle.listing.specs.Digits.{digit, hex_run, hex, decimal_in, decimal}
-use Rattle.listing.specs.Internal.{Wrote}
-use Rattle.listing.proofs.Writes.{by_test, wrote_none_lem, on, reads}
+use Rattle.listing.specs.Internal.{Wrote, Puts}
+use Rattle.listing.specs.declared.Text.{Text}
+use Rattle.listing.proofs.Writes.{by_test, on, reads}
 
 pub digit_low : (d r : ℕ) → d < 10 → r ≡ 48 + d → r ≡ digit d
 unfolding digit
@@ -49,12 +50,15 @@ pub decimal_more : (n : ℕ) → 10 ≤ n → decimal n ≡ decimal (n / 10) ++ 
 unfolding decimal
 decimal_more n h = in_more n n h ∙ ap (λ (ds : List ℕ). ds ++ (digit (n % 10) ∷ [])) (enough n (suc (n / 10)) (n / 10) (omega arith) (omega arith))
 
--- a number of one digit, and the last digit of another
-pub decimal_end : {s t : List ℕ} {p q n d : ℕ} → n < 10 → d ≡ digit n → Wrote s p (d ∷ []) q t → Wrote s p (decimal n) q t
-decimal_end {n = n} h e w = reads (ap (λ (x : ℕ). x ∷ []) e ∙ sym (decimal-one n h)) w
+-- the last digit behind those before it, and a number of one digit
+pub decimal_on : {a b : Text} (t u : Text) (n d : ℕ) → 10 ≤ n → Puts t (decimal (n / 10)) b → a ≡ b → d ≡ digit (n % 10) → Puts a (d ∷ []) u → Puts t (decimal n) u
+decimal_on t u n d h w is e v =
+    reads (sym (decimal_more n h)) (on w (reads (ap (λ (x : ℕ). x ∷ []) e) (subst (λ (x : Text). Puts x (d ∷ []) u) is v)))
 
-pub decimal_on : {s t u : List ℕ} {p q r n d : ℕ} → 10 ≤ n → Wrote s p (decimal (n / 10)) q t → d ≡ digit (n % 10) → Wrote t q (d ∷ []) r u → Wrote s p (decimal n) r u
-decimal_on {n = n} h w e v = reads (sym (decimal_more n h)) (on w (reads (ap (λ (x : ℕ). x ∷ []) e) v))
+pub decimal_end : {a : Text} (t u : Text) (n d : ℕ) → n < 10 → a ≡ t → d ≡ digit (n % 10) → Puts a (d ∷ []) u → Puts t (decimal n) u
+decimal_end t u n d h is e v =
+    let m : n % 10 ≡ n = omega arith in
+    reads (ap (λ (x : ℕ). x ∷ []) (e ∙ ap digit m) ∙ sym (decimal-one n h)) (subst (λ (x : Text). Puts x (d ∷ []) u) is v)
 
 -- ---- hex
 
@@ -63,24 +67,13 @@ unfolding hex_run
 hex-append [] ys = refl
 hex-append (x ∷ xs) ys = ap (λ (l : List ℕ). digit (x / 16) ∷ digit (x % 16) ∷ l) (hex-append xs ys)
 
--- the two digits of a byte
-pub hex_byte : {s t u : List ℕ} {p q r x y : ℕ} (b : ℕ) → x ≡ digit (b / 16) → Wrote s p (x ∷ []) q t → y ≡ digit (b % 16) → Wrote t q (y ∷ []) r u
-    → Wrote s p (hex_run (b ∷ [])) r u
+-- one byte more in hex: its two digits
+pub hex_next : {s t u v : List ℕ} {p q r m x y : ℕ} (bs : List ℕ) (i : ℕ) → i < length bs → Wrote s p (hex_run (take i bs)) q t
+    → x ≡ digit (get_or bs i 0 / 16) → Wrote t q (x ∷ []) r u → y ≡ digit (get_or bs i 0 % 16) → Wrote u r (y ∷ []) m v → Wrote s p (hex_run (take (i + 1) bs)) m v
 unfolding hex_run
-hex_byte b e hi f lo = reads (ap₂ (λ (x y : ℕ). x ∷ y ∷ []) e f) (on hi lo)
-
--- the first bytes in hex: none, one more, all
-pub hex-start : (s : List ℕ) (p : ℕ) (bs : List ℕ) → Wrote s p (hex_run (take 0 bs)) p s
-unfolding hex_run
-hex-start s p bs = wrote_none_lem s p
-
-pub hex-turn : {s t u : List ℕ} {p q r : ℕ} (bs : List ℕ) (i : ℕ) → i < length bs → Wrote s p (hex_run (take i bs)) q t
-    → Wrote t q (hex_run (get_or bs i 0 ∷ [])) r u → Wrote s p (hex_run (take (i + 1) bs)) r u
-hex-turn bs i h w v =
-    reads (sym (hex-append (take i bs) (get_or bs i 0 ∷ [])) ∙ ap hex_run (sym (take-suc bs i 0 h) ∙ ap (λ (n : ℕ). take n bs) (sym (add-one i)))) (on w v)
-
-pub hex_end : {s t : List ℕ} {p q : ℕ} (bs : List ℕ) (i : ℕ) → length bs ≤ i → Wrote s p (hex_run (take i bs)) q t → Wrote s p (hex_run bs) q t
-hex_end bs i l w = reads (ap hex_run (take_all i bs l)) w
+hex_next bs i h w e hi f lo =
+    reads (sym (hex-append (take i bs) (get_or bs i 0 ∷ [])) ∙ ap hex_run (sym (take-suc bs i 0 h) ∙ ap (λ (n : ℕ). take n bs) (sym (add-one i))))
+    (on w (reads (ap₂ (λ (x y : ℕ). x ∷ y ∷ []) e f) (on hi lo)))
 
 pub hex_none : (bs : List ℕ) → length bs ≡ 0 → hex bs ≡ 45 ∷ []
 unfolding hex

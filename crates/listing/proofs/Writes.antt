@@ -8,9 +8,9 @@ use native.Mathlib.Numerals.{add-one}
 use native.Mathlib.Omega.{arith}
 use lib.Dec.{ltb, leb}
 use lib.ListN.{length, take, get_or, set, length-set, length-append}
-use lib.Seq.{sets, length-sets, set_out, take-suc, take_all}
+use lib.Seq.{sets, length-sets, set_out, take-suc}
 use borrow.Author.Tests.{ltb-true, ltb-false, lt-ltb, le-ltb, leb-true, leb-false, le-leb, lt-leb}
-use Rattle.listing.specs.declared.Listed.TheVariants.{Bytes as bytes, NoRoom as no_room}
+use Rattle.std.specs.Prelude.Option.{Some, None}
 use Rattle.listing.specs.Writing.{written, listed}
 use Rattle.listing.specs.Internal.{stepped, behind, Wrote}
 
@@ -109,21 +109,18 @@ pub byte_out : (s : List ℕ) (p b q : ℕ) → length s ≤ p → q ≡ length 
 unfolding written behind
 byte_out s p b q h e = record { place = e ∙ sym (stepped_out (length s) p h); buffer = sym (set_out s p b h) }
 
--- one byte more of a run, and all of it
-pub bytes_turn : {s t u : List ℕ} {p q r : ℕ} (xs : List ℕ) (i : ℕ) → i < length xs → Wrote s p (take i xs) q t → Wrote t q (get_or xs i 0 ∷ []) r u
+-- one byte more of a run
+pub bytes_next : {s t u : List ℕ} {p q r : ℕ} (xs : List ℕ) (i : ℕ) → i < length xs → Wrote s p (take i xs) q t → Wrote t q (get_or xs i 0 ∷ []) r u
     → Wrote s p (take (i + 1) xs) r u
-bytes_turn xs i h w v = reads (sym (take-suc xs i 0 h) ∙ ap (λ (n : ℕ). take n xs) (sym (add-one i))) (on w v)
-
-pub bytes_end : {s t : List ℕ} {p q : ℕ} (xs : List ℕ) (i : ℕ) → length xs ≤ i → Wrote s p (take i xs) q t → Wrote s p xs q t
-bytes_end xs i l w = reads (take_all i xs l) w
+bytes_next xs i h w v = reads (sym (take-suc xs i 0 h) ∙ ap (λ (n : ℕ). take n xs) (sym (add-one i))) (on w v)
 
 -- ---- the answer
 
-pub listed-whole : (n k : ℕ) → k ≤ n → bytes k ≡ listed n k
+pub listed-whole : (n k : ℕ) → k ≤ n → Some k ≡ listed n k
 unfolding listed
 listed-whole n k h = simp (le-leb k n h)
 
-pub listed_no_room : (n k : ℕ) → n < k → no_room ≡ listed n k
+pub listed_no_room : (n k : ℕ) → n < k → None ≡ listed n k
 unfolding listed
 listed_no_room n k h = simp (lt-leb k n h)
 

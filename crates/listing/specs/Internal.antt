@@ -1,13 +1,9 @@
 -- Helper: for proofs; no promise rests on reading it.
 -- What the functions that write text into a lent buffer answer and leave.
 -- Assumes nothing.
-use Rattle.std.specs.Prelude.{◌≡◌, cond, List, ℕ, zero, suc, ◌+◌, ltb, length}
-use Rattle.listing.specs.declared.Listed.{Listed}
-use Rattle.listing.specs.declared.Cursor.{Cursor}
+use Rattle.std.specs.Prelude.{◌≡◌, cond, List, Option, ℕ, zero, suc, ◌+◌, ltb, length}
+use Rattle.listing.specs.declared.Text.{Text}
 use Rattle.listing.specs.Writing.{listed, written}
-
-abbrev pub cursor : ℕ → ℕ → Cursor
-cursor p q = record { at = p; passed = q }
 
 -- the place after one byte more, in a buffer of n bytes: n + 1 where it does not fit
 unfoldable pub stepped : ℕ → ℕ → ℕ
@@ -23,14 +19,18 @@ pub record Wrote (s : List ℕ) (p : ℕ) (xs : List ℕ) (q : ℕ) (t : List �
   pub place : q ≡ behind (length s) p (length xs)
   pub buffer : t ≡ written s p xs
 
--- the same, where n bytes of the names or payloads are then passed
-abbrev pub WrotePast : List ℕ → ℕ → List ℕ → ℕ → Cursor → List ℕ → Type 0
-WrotePast s p xs n q t = (q ≡ cursor (behind (length s) p (length xs)) n) × (t ≡ written s p xs)
+-- the same of a text: t' is the text behind which xs are written
+abbrev pub Puts : Text → List ℕ → Text → Type 0
+Puts t xs t' = Wrote t.out.now t.at xs t'.at t'.out.now
+
+-- both texts are in the same buffer
+abbrev pub SameOut : Text → Text → Type 0
+SameOut t t' = t'.out.ghost_name ≡ t.out.ghost_name
 
 -- the text xs stands in the buffer s from its start on: a is what is answered, t what is left in the buffer
-abbrev pub Lists : List ℕ → List ℕ → Listed → List ℕ → Type 0
+abbrev pub Lists : List ℕ → List ℕ → Option ℕ → List ℕ → Type 0
 Lists s xs a t = (a ≡ listed (length s) (length xs)) × (t ≡ written s 0 xs)
 
 -- the same from a place p on: what is answered is for all that ends with xs
-abbrev pub ListsFrom : List ℕ → ℕ → List ℕ → Listed → List ℕ → Type 0
+abbrev pub ListsFrom : List ℕ → ℕ → List ℕ → Option ℕ → List ℕ → Type 0
 ListsFrom s p xs a t = (a ≡ listed (length s) (behind (length s) p (length xs))) × (t ≡ written s p xs)

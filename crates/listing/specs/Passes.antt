@@ -1,15 +1,13 @@
 -- Helper: for proofs; no promise rests on reading it.
 -- What the passes over the record table and the table of queues count and write, by how many entries or rows they have passed.
 -- Assumes nothing.
-use Rattle.std.specs.Prelude.{cond, List, [], ◌++◌, ℕ, zero, suc, ◌+◌, ◌≤◌, eqb, length, take, drop, get_or}
+use Rattle.std.specs.Prelude.{cond, List, [], ◌++◌, ℕ, zero, suc, ◌+◌, ◌≤◌, eqb, length, take, drop, get_or, count_by}
 use Rattle.record.specs.Record.{item}
 use Rattle.queues.specs.declared.RecordEntry.{RecordEntry}
 use Rattle.queues.specs.Layout.{blank}
 use Rattle.queues.specs.Changes.{word_at}
 use Rattle.queues.specs.Access.{RowFits}
 use Rattle.queues.specs.Passes.{passed_to, names_to}
-use Rattle.listing.specs.declared.Cursor.{Cursor}
-use Rattle.listing.specs.Internal.{behind, cursor}
 use Rattle.listing.specs.Listing.{head_line, record_line}
 
 -- ---- one entry, one row
@@ -17,10 +15,6 @@ use Rattle.listing.specs.Listing.{head_line, record_line}
 -- the line of an entry with the payload xs, where it is of queue k
 unfoldable pub entry_line : ℕ → RecordEntry → List ℕ → List ℕ
 entry_line k e xs = cond (eqb e.queue k) (record_line (item e.position xs)) []
-
--- one more, where the entry is of queue k
-unfoldable pub counted : ℕ → RecordEntry → ℕ → ℕ
-counted k e n = cond (eqb e.queue k) (n + 1) n
 
 -- the line of the queue with row k, whose name stands after q bytes of the names
 unfoldable pub row_line : List ℕ → List ℕ → ℕ → ℕ → ℕ → List ℕ
@@ -34,9 +28,8 @@ pub record RowLine (ns t : List ℕ) (q k : ℕ) : Type 0 where
 -- ---- the first entries, the first rows
 
 -- how many of the first n entries are of queue k
-unfoldable pub count_to : ℕ → List RecordEntry → ℕ → ℕ
-count_to k es zero = 0
-count_to k es (suc n) = counted k (get_or es n blank) (count_to k es n)
+abbrev pub count_to : ℕ → List RecordEntry → ℕ → ℕ
+count_to k es n = count_by (λ e. eqb e.queue k) (take n es)
 
 -- the lines of those of the first n entries that are of queue k
 unfoldable pub lines_to : ℕ → List RecordEntry → List ℕ → ℕ → List ℕ
@@ -51,13 +44,3 @@ queue_text ns ps es t n q k = row_line ns t q k (count_to k es n) ++ lines_to k 
 unfoldable pub queues_to : List ℕ → List ℕ → List RecordEntry → List ℕ → ℕ → ℕ → List ℕ
 queues_to ns ps es t n zero = []
 queues_to ns ps es t n (suc k) = queues_to ns ps es t n k ++ queue_text ns ps es t n (names_to t k) k
-
--- ---- where a pass has come
-
--- the pass over the entries, from place p of a buffer of n bytes on
-abbrev pub records_at : ℕ → ℕ → ℕ → List RecordEntry → List ℕ → ℕ → Cursor
-records_at n p k es ps i = cursor (behind n p (length (lines_to k es ps i))) (passed_to es i)
-
--- the pass over the rows
-abbrev pub queues_at : ℕ → ℕ → List ℕ → List ℕ → List RecordEntry → List ℕ → ℕ → ℕ → Cursor
-queues_at n p ns ps es t c k = cursor (behind n p (length (queues_to ns ps es t c k))) (names_to t k)

@@ -1,64 +1,52 @@
 // Numbers in decimal, and runs of bytes in lower-case hex.
+// Kept: no plainer: `write!` through a `Display` says nothing of the buffer where its answer is an `Err`, and a text that does not fit
+// is promised as far as it fits.
 ghost use Rattle.std.specs.Prelude.{◌≡◌, [], ◌∷◌, ◌<◌};
-ghost use Rattle.listing.specs.Internal.{Wrote};
+ghost use Rattle.listing.specs.Internal.{SameOut, Puts};
 ghost use Rattle.listing.specs.Digits.{digit, hex_run, hex, decimal};
 
-use crate::write::put_byte;
+use crate::Text;
 
 // The digit of a number below 16.
 fn digit(d: u8) -> u8
     requires { d < 16 }
     ensures { result ≡ digit d }
 {
-    if d < 10 { 48 + d } else { 87 + d }
+    if d < 10 { b'0' + d } else { b'a' + (d - 10) }
 }
 
-// The digit of a number below 10.
-fn decimal_digit(d: u64) -> u8
-    requires { d < 10 }
-    ensures { result ≡ digit d }
-{
-    digit(d as u8)
-}
-
-// A number in decimal: the digits before the last one first.
-pub fn put_decimal(out: &mut [u8], at: usize, n: u64) -> usize
-    ensures { Wrote out.old at (decimal n) result out.new }
-{
-    if n < 10 {
-        return put_byte(out, at, decimal_digit(n));
+impl<'a> Text<'a> {
+    // A number in decimal: the digits before the last one first.
+    pub fn put_decimal(&mut self, n: u64)
+        ensures same { SameOut self.old self.new }
+        ensures puts { Puts self.old (decimal n) self.new }
+    {
+        if 10 <= n {
+            self.put_decimal(n / 10);
+        }
+        self.put_byte(digit((n % 10) as u8));
     }
-    let last = put_decimal(out, at, n / 10);
-    put_byte(out, last, decimal_digit(n % 10))
-}
 
-// The two digits of a byte.
-fn put_hex_byte(out: &mut [u8], at: usize, b: u8) -> usize
-    ensures { Wrote out.old at (hex_run (b ∷ [])) result out.new }
-{
-    let p = put_byte(out, at, digit(b / 16));
-    put_byte(out, p, digit(b % 16))
-}
-
-// Two digits for each byte.
-fn put_hex_run(out: &mut [u8], at: usize, bytes: &[u8]) -> usize
-    ensures { Wrote out.old at (hex_run bytes.now) result out.new }
-{
-    let mut p = at;
-    let mut i = 0;
-    while i < bytes.len() {
-        p = put_hex_byte(out, p, bytes[i]);
-        i += 1;
+    // Two digits for each byte.
+    fn put_hex_run(&mut self, bytes: &[u8])
+        ensures same { SameOut self.old self.new }
+        ensures puts { Puts self.old (hex_run bytes.now) self.new }
+    {
+        for b in bytes {
+            self.put_byte(digit(*b / 16));
+            self.put_byte(digit(*b % 16));
+        }
     }
-    p
-}
 
-// A run of bytes in hex, or '-' where there are none.
-pub fn put_hex(out: &mut [u8], at: usize, bytes: &[u8]) -> usize
-    ensures { Wrote out.old at (hex bytes.now) result out.new }
-{
-    if bytes.len() == 0 {
-        return put_byte(out, at, b'-');
+    // A run of bytes in hex, or '-' where there are none.
+    pub fn put_hex(&mut self, bytes: &[u8])
+        ensures same { SameOut self.old self.new }
+        ensures puts { Puts self.old (hex bytes.now) self.new }
+    {
+        if bytes.is_empty() {
+            self.put_byte(b'-');
+        } else {
+            self.put_hex_run(bytes);
+        }
     }
-    put_hex_run(out, at, bytes)
 }

@@ -4,24 +4,15 @@
 mod digits;
 mod lines;
 mod passes;
-mod text;
+mod rows;
 mod write;
 
-pub use lines::{answer, put_number_line, put_numbered};
 pub use passes::list;
-pub use text::refused;
-pub use write::{put_byte, put_bytes};
+pub use rows::refused;
 
-// What became of a text: it stands in the buffer, in this many bytes, or the buffer is too short for it.
-#[derive(Clone, Copy)]
-pub enum Listed {
-    Bytes(usize),
-    NoRoom,
-}
-
-// The place in the buffer, and how many bytes of the names or payloads are passed.
-#[derive(Clone, Copy)]
-pub struct Cursor {
+// A text in a lent buffer, and the place behind it. A byte that does not fit is dropped, and the place behind it is one past the buffer's end.
+#[derive(Drop)]
+pub struct Text<'a> {
+    pub out: &'a mut [u8],
     pub at: usize,
-    pub passed: usize,
 }

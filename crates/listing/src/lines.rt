@@ -1,50 +1,61 @@
 // The lines of the listing.
 ghost use Rattle.std.specs.Prelude.{◌≡◌, ◌+◌, ◌<◌, ◌^◌, ◌*◌};
-ghost use Rattle.listing.specs.Writing.{listed};
-ghost use Rattle.listing.specs.Internal.{Wrote};
+ghost use Rattle.listing.specs.Internal.{SameOut, Puts};
 ghost use Rattle.listing.specs.Listing.{numbered, number_line, head_line, record_line, fill_line, fill_tenths, half_even};
 ghost use Rattle.listing.specs.Claims.{LogFits};
 ghost use Rattle.record.specs.Record.{item};
 
-use crate::Listed;
-use crate::digits::{put_decimal, put_hex};
-use crate::write::{put_byte, put_bytes};
+use crate::Text;
 use frame::Reader;
 
-// A word and a number.
-pub fn put_numbered(out: &mut [u8], at: usize, word: &[u8], n: u64) -> usize
-    ensures { Wrote out.old at (numbered word.now n) result out.new }
-{
-    let p = put_bytes(out, at, word);
-    put_decimal(out, p, n)
-}
+impl<'a> Text<'a> {
+    // A word and a number.
+    pub fn put_numbered(&mut self, word: &[u8], n: u64)
+        ensures same { SameOut self.old self.new }
+        ensures puts { Puts self.old (numbered word.now n) self.new }
+    {
+        self.put_bytes(word);
+        self.put_decimal(n);
+    }
 
-pub fn put_number_line(out: &mut [u8], at: usize, word: &[u8], n: u64) -> usize
-    ensures { Wrote out.old at (number_line word.now n) result out.new }
-{
-    let p = put_numbered(out, at, word, n);
-    put_byte(out, p, b'\n')
-}
+    pub fn put_number_line(&mut self, word: &[u8], n: u64)
+        ensures same { SameOut self.old self.new }
+        ensures puts { Puts self.old (number_line word.now n) self.new }
+    {
+        self.put_numbered(word, n);
+        self.put_byte(b'\n');
+    }
 
-// A queue's name, start, next position and number of records.
-pub fn put_head(out: &mut [u8], at: usize, name: &[u8], start: u64, next: u64, held: u64) -> usize
-    ensures { Wrote out.old at (head_line name.now start next held) result out.new }
-{
-    let p = put_bytes(out, at, b"queue ");
-    let p = put_hex(out, p, name);
-    let p = put_numbered(out, p, b" start ", start);
-    let p = put_numbered(out, p, b" next ", next);
-    put_number_line(out, p, b" held ", held)
-}
+    // A queue's name, start, next position and number of records.
+    pub fn put_head(&mut self, name: &[u8], start: u64, next: u64, held: u64)
+        ensures same { SameOut self.old self.new }
+        ensures puts { Puts self.old (head_line name.now start next held) self.new }
+    {
+        self.put_bytes(b"queue ");
+        self.put_hex(name);
+        self.put_numbered(b" start ", start);
+        self.put_numbered(b" next ", next);
+        self.put_number_line(b" held ", held);
+    }
 
-// A record's position and payload.
-pub fn put_record(out: &mut [u8], at: usize, position: u64, payload: &[u8]) -> usize
-    ensures { Wrote out.old at (record_line (item position payload.now)) result out.new }
-{
-    let p = put_numbered(out, at, b"record ", position);
-    let p = put_byte(out, p, b' ');
-    let p = put_hex(out, p, payload);
-    put_byte(out, p, b'\n')
+    // A record's position and payload.
+    pub fn put_record(&mut self, position: u64, payload: &[u8])
+        ensures same { SameOut self.old self.new }
+        ensures puts { Puts self.old (record_line (item position payload.now)) self.new }
+    {
+        self.put_numbered(b"record ", position);
+        self.put_byte(b' ');
+        self.put_hex(payload);
+        self.put_byte(b'\n');
+    }
+
+    pub fn put_fill(&mut self, tenths: u64)
+        ensures same { SameOut self.old self.new }
+        ensures puts { Puts self.old (fill_line tenths) self.new }
+    {
+        self.put_numbered(b"fill ", tenths / 10);
+        self.put_number_line(b".", tenths % 10);
+    }
 }
 
 // a / b to the nearest whole number, at an exact half the even one.
@@ -70,21 +81,4 @@ pub fn fill_tenths(resumed: usize, log_bytes: usize) -> u64
 {
     let whole = log_bytes / Reader::BLOCK_NUM_BYTES * Reader::BLOCK_NUM_BYTES;
     half_even(1000 * (resumed as u64), whole as u64)
-}
-
-pub fn put_fill(out: &mut [u8], at: usize, tenths: u64) -> usize
-    ensures { Wrote out.old at (fill_line tenths) result out.new }
-{
-    let p = put_numbered(out, at, b"fill ", tenths / 10);
-    put_number_line(out, p, b".", tenths % 10)
-}
-
-// What is answered for a text that ends at `at`.
-pub fn answer(room: usize, at: usize) -> Listed
-    ensures { result ≡ listed room at }
-{
-    if at <= room {
-        return Listed::Bytes(at);
-    }
-    Listed::NoRoom
 }

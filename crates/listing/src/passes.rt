@@ -2,81 +2,63 @@
 ghost use Rattle.std.specs.Prelude.{◌≡◌, true, ◌+◌, ◌≤◌, length};
 ghost use Rattle.queues.specs.Layout.{memory, meaning, arranged};
 ghost use Rattle.queues.specs.Changes.{word_at};
-ghost use Rattle.listing.specs.Writing.{written};
-ghost use Rattle.listing.specs.Internal.{WrotePast, ListsFrom};
+ghost use Rattle.listing.specs.Internal.{SameOut, Puts, ListsFrom};
 ghost use Rattle.listing.specs.Listing.{listing};
 ghost use Rattle.listing.specs.Claims.{LogFits};
 ghost use Rattle.queues.specs.Passes.{EntriesFit, QueueFits};
-ghost use Rattle.listing.specs.Passes.{count_to, lines_to, queue_text, records_at};
+ghost use Rattle.listing.specs.Passes.{count_to, lines_to, queue_text};
 
-use crate::text::{count_entry, end_lines, entry_line, past_queue, queues_line, row_line};
-use crate::{Cursor, Listed};
-use mem_entries::entry_at;
+use crate::Text;
 use mem_names::table::held;
 use queues::RecordEntry;
 
 // How many of the first entries are of this queue.
-pub fn held_of(entries: &[RecordEntry], count: usize, queue: usize) -> usize
+fn held_of(entries: &[RecordEntry], count: usize, queue: usize) -> usize
     requires { count ≤ length entries.now }
     ensures { result ≡ count_to queue entries.now count }
 {
-    let mut n: usize = 0;
-    let mut i: usize = 0;
-    while i < count {
-        let e = entry_at(entries, i);
-        n = count_entry(n, e, queue);
-        i += 1;
+    entries[..count].iter().filter(|e| e.queue == queue).count()
+}
+
+impl<'a> Text<'a> {
+    // The lines of those of the first entries that are of this queue.
+    fn record_lines(&mut self, entries: &[RecordEntry], payloads: &[u8], count: usize, queue: usize)
+        requires { EntriesFit entries.now payloads.now count }
+        ensures same { SameOut self.old self.new }
+        ensures puts { Puts self.old (lines_to queue entries.now payloads.now count) self.new }
+    {
+        let mut passed: usize = 0;
+        for e in &entries[..count] {
+            passed = self.entry_line(payloads, passed, *e, queue);
+        }
     }
-    n
-}
 
-// The lines of those of the first entries that are of this queue.
-pub fn record_lines(
-    entries: &[RecordEntry],
-    payloads: &[u8],
-    out: &mut [u8],
-    at: usize,
-    count: usize,
-    queue: usize,
-) -> Cursor
-    requires { EntriesFit entries.now payloads.now count }
-    ensures { (result ≡ records_at (length out.old) at queue entries.now payloads.now count)
-        × (out.new ≡ written out.old at (lines_to queue entries.now payloads.now count)) }
-{
-    let mut from = Cursor { at: at, passed: 0 };
-    let mut i: usize = 0;
-    while i < count {
-        let e = entry_at(entries, i);
-        from = entry_line(payloads, out, from, e, queue);
-        i += 1;
+    // The lines of queue k, whose name starts where the names are passed. Answers where they are passed behind it.
+    fn queue_text(
+        &mut self,
+        names: &[u8],
+        payloads: &[u8],
+        entries: &[RecordEntry],
+        table: &[u64],
+        passed: usize,
+        count: usize,
+        k: usize,
+    ) -> usize
+        requires { QueueFits names.now payloads.now entries.now table.now count passed k }
+        ensures same { SameOut self.old self.new }
+        ensures puts { Puts
+            self.old
+            (queue_text names.now payloads.now entries.now table.now count passed k)
+            self.new }
+        ensures passed { result ≡ passed + word_at table.now k 0 }
+    {
+        let end = self.row_line(names, table, passed, k, held_of(entries, count, k));
+        self.record_lines(entries, payloads, count, k);
+        end
     }
-    from
 }
 
-// The lines of queue k, whose name starts where the names are passed.
-pub fn queue_text(
-    names: &[u8],
-    payloads: &[u8],
-    entries: &[RecordEntry],
-    table: &[u64],
-    out: &mut [u8],
-    from: Cursor,
-    count: usize,
-    k: usize,
-) -> Cursor
-    requires { QueueFits names.now payloads.now entries.now table.now count from.passed k }
-    ensures { WrotePast out.old from.at
-        (queue_text names.now payloads.now entries.now table.now count from.passed k)
-        (from.passed + word_at table.now k 0)
-        result out.new }
-{
-    let records = held_of(entries, count, k);
-    let row = row_line(names, table, out, from, k, records);
-    let lines = record_lines(entries, payloads, out, row.at, count, k);
-    past_queue(row, lines)
-}
-
-// The listing of a memory that is arranged, from a place of the buffer on.
+// The listing of a memory that is arranged, behind what the text has.
 pub fn list(
     names: &[u8],
     payloads: &[u8],
@@ -85,25 +67,20 @@ pub fn list(
     lost: u64,
     resumed: usize,
     log_bytes: usize,
-    out: &mut [u8],
-    at: usize,
-) -> Listed
+    text: &mut Text,
+) -> Option<usize>
     requires { (arranged (memory names.now payloads.now entries.now table.now) ≡ true)
         × LogFits resumed log_bytes }
-    ensures { ListsFrom out.old at
+    ensures same { SameOut text.old text.new }
+    ensures lists { ListsFrom text.old.out.now text.old.at
         (listing (meaning (memory names.now payloads.now entries.now table.now)) lost resumed log_bytes)
-        result out.new }
+        result text.new.out.now }
 {
     let sums = held(table);
-    let first = queues_line(out, at, sums.queues);
-    let mut from = Cursor {
-        at: first,
-        passed: 0,
-    };
-    let mut k: usize = 0;
-    while k < sums.queues {
-        from = queue_text(names, payloads, entries, table, out, from, sums.records, k);
-        k += 1;
+    text.put_number_line(b"queues ", sums.queues as u64);
+    let mut passed: usize = 0;
+    for k in 0..sums.queues {
+        passed = text.queue_text(names, payloads, entries, table, passed, sums.records, k);
     }
-    end_lines(out, from.at, lost, resumed, log_bytes)
+    text.end_lines(lost, resumed, log_bytes)
 }

@@ -1,25 +1,36 @@
-// Bytes written at a place of a lent buffer. A byte that does not fit is dropped, and the place after it is one past the buffer's end.
-ghost use Rattle.std.specs.Prelude.{[], ◌∷◌};
-ghost use Rattle.listing.specs.Internal.{Wrote};
+// Bytes written behind one another in a lent buffer, and whether all of them stand in it.
+ghost use Rattle.std.specs.Prelude.{◌≡◌, [], ◌∷◌, length};
+ghost use Rattle.listing.specs.Writing.{listed};
+ghost use Rattle.listing.specs.Internal.{SameOut, Puts};
 
-pub fn put_byte(out: &mut [u8], at: usize, b: u8) -> usize
-    ensures { Wrote out.old at (b ∷ []) result out.new }
-{
-    if at < out.len() {
-        out[at] = b;
-        return at + 1;
-    }
-    out.len() + 1
-}
+use crate::Text;
 
-pub fn put_bytes(out: &mut [u8], at: usize, bytes: &[u8]) -> usize
-    ensures { Wrote out.old at bytes.now result out.new }
-{
-    let mut p = at;
-    let mut i = 0;
-    while i < bytes.len() {
-        p = put_byte(out, p, bytes[i]);
-        i += 1;
+impl<'a> Text<'a> {
+    pub fn put_byte(&mut self, b: u8)
+        ensures same { SameOut self.old self.new }
+        ensures puts { Puts self.old (b ∷ []) self.new }
+    {
+        if self.at < self.out.len() {
+            self.out[self.at] = b;
+            self.at += 1;
+        } else {
+            self.at = self.out.len() + 1;
+        }
     }
-    p
+
+    pub fn put_bytes(&mut self, bytes: &[u8])
+        ensures same { SameOut self.old self.new }
+        ensures puts { Puts self.old bytes.now self.new }
+    {
+        for b in bytes {
+            self.put_byte(*b);
+        }
+    }
+
+    // How many bytes the text has, where all of it stands in the buffer.
+    pub fn listed(&self) -> Option<usize>
+        ensures { result ≡ listed (length self.now.out.now) self.now.at }
+    {
+        (self.at <= self.out.len()).then_some(self.at)
+    }
 }

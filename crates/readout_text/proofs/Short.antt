@@ -25,7 +25,7 @@ use Rattle.lost_bytes.proofs.Within.{lost_within}
 use Rattle.calls.proofs.Numbers.{replay_never_six}
 use Rattle.calls.proofs.AnyLog.{replayed_arranged, resumes_in_log}
 use Rattle.calls.proofs.Marks.{marks_bound, marks_fit}
-use Rattle.listing.specs.declared.Listed.TheVariants.{Bytes as bytes, NoRoom as no_room}
+use Rattle.std.specs.Prelude.Option.{Some, None}
 use Rattle.listing.specs.Digits.{digit, decimal_in, decimal}
 use Rattle.listing.specs.Writing.{listed}
 use Rattle.listing.specs.Listing.{shift_lines, numbered, number_line, listing, refusal}
@@ -118,11 +118,11 @@ pub never_no_room : NeverNoRoom
 unfolding listed
 never_no_room input room b h =
     let k : length (card_text input) ≤ room = omega (arith, card_short input b, h) in
-    ap (λ (x : Bool). cond x (bytes (length (card_text input))) no_room) (le-leb (length (card_text input)) room k)
+    ap (λ (x : Bool). cond x (Some (length (card_text input))) None) (le-leb (length (card_text input)) room k)
 
 -- ---- in the buffer
 
-in_on : (room k n : ℕ) (x : Bool) → leb k room ≡ x → bytes n ≡ cond x (bytes k) no_room → n ≤ room
+in_on : (room k n : ℕ) (x : Bool) → leb k room ≡ x → Some n ≡ cond x (Some k) None → n ≤ room
 in_on room k n true e w =
     let d : n ≡ k = cc in
     omega (arith, leb-true k room e, d)

@@ -1,10 +1,9 @@
 -- Claim.
 -- What is claimed of the text for a card; each is proved in proofs/ under the same name in snake case.
 -- Assumes nothing.
-use Rattle.std.specs.Prelude.{◌≡◌, List, [], ◌∷◌, ◌++◌, ℕ, ◌≤◌, ◌<◌, length}
+use Rattle.std.specs.Prelude.{◌≡◌, List, [], ◌∷◌, ◌++◌, Option, ℕ, ◌≤◌, ◌<◌, length}
 use Rattle.slices.specs.Bytes.{Bytes, zeros}
-use Rattle.listing.specs.declared.Listed.{Listed}
-use Rattle.listing.specs.declared.Listed.TheVariants.{Bytes as bytes}
+use Rattle.std.specs.Prelude.Option.{Some}
 use Rattle.listing.specs.Writing.{written, listed}
 use Rattle.listing.specs.Listing.{refusal}
 use Rattle.listing.specs.Claims.{example_line1, example_line2, example_line3, example_line4, example_line5, example_line6}
@@ -16,11 +15,11 @@ abbrev pub CardShort : Type 0
 CardShort = (input : List ℕ) → Bytes input → length (card_text input) ≤ 420235
 
 abbrev pub NeverNoRoom : Type 0
-NeverNoRoom = (input : List ℕ) (room : ℕ) → Bytes input → 420235 ≤ room → listed room (length (card_text input)) ≡ bytes (length (card_text input))
+NeverNoRoom = (input : List ℕ) (room : ℕ) → Bytes input → 420235 ≤ room → listed room (length (card_text input)) ≡ Some (length (card_text input))
 
 -- what is answered for a text lies in the buffer that it leaves
 abbrev pub InTheBuffer : Type 0
-InTheBuffer = (room k : ℕ) (text after : List ℕ) (r : Listed) (n : ℕ) → r ≡ bytes n → (r ≡ listed room k) × (after ≡ written (zeros room) 0 text) → n ≤ length after
+InTheBuffer = (room k : ℕ) (text after : List ℕ) (r : Option ℕ) (n : ℕ) → r ≡ Some n → (r ≡ listed room k) × (after ≡ written (zeros room) 0 text) → n ≤ length after
 
 -- "over 65,536 bytes of input is 1", and under one block
 abbrev pub TooLong : Type 0

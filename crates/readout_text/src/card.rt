@@ -7,14 +7,16 @@ ghost use Rattle.readout_text.specs.Card.{card_text, sized_text};
 use crate::replayed::list_replayed;
 use calls::Refusal;
 use frame::Reader;
-use listing::{Listed, refused};
+use lent::QueueMemory;
+use listing::refused;
+use mem_entries::blank;
 use slices::clear;
 
 // Two blocks.
 const MAX_CARD_LEN: usize = 2 * Reader::BLOCK_NUM_BYTES;
 
 // The text for one or two blocks, in a buffer of zeros.
-fn list_sized(input: &[u8], out: &mut [u8]) -> Listed
+fn list_sized(input: &[u8], out: &mut [u8]) -> Option<usize>
     requires { (32768 ≤ length input.now)
         × ((length input.now ≤ 65536)
         × (out.old ≡ zeros (length out.old))) }
@@ -24,30 +26,27 @@ fn list_sized(input: &[u8], out: &mut [u8]) -> Listed
     let mut scratch = [0u8; 65536];
     let mut names = [0u8; 32768];
     let mut payloads = [0u8; 32768];
+    let mut entries = [blank(); 1024];
     let mut largest = [0u64; 1024];
     let mut table = [0u64; 196];
-    list_replayed(
-        input,
-        &mut scratch,
-        &mut names,
-        &mut payloads,
-        &mut largest,
-        &mut table,
-        out,
-    )
+    let mut memory = QueueMemory {
+        names: &mut names,
+        payloads: &mut payloads,
+        entries: &mut entries,
+        largest: &mut largest,
+        table: &mut table,
+    };
+    list_replayed(input, &mut scratch, &mut memory, out)
 }
 
 // What `readout` prints for an input, with zeros after it.
-pub fn list_card(input: &[u8], out: &mut [u8]) -> Listed
+pub fn list_card(input: &[u8], out: &mut [u8]) -> Option<usize>
     ensures { (result ≡ listed (length out.old) (length (card_text input.now)))
         × (out.new ≡ written (zeros (length out.old)) 0 (card_text input.now)) }
 {
     clear(out);
-    if input.len() < Reader::BLOCK_NUM_BYTES {
-        return refused(out, Refusal::LOG_SIZE);
-    }
-    if MAX_CARD_LEN < input.len() {
-        return refused(out, Refusal::LOG_SIZE);
+    if input.len() < Reader::BLOCK_NUM_BYTES || MAX_CARD_LEN < input.len() {
+        return refused(out, Refusal::LogSize.number());
     }
     list_sized(input, out)
 }

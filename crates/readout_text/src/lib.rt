@@ -2,14 +2,6 @@
 #![tactic(auto)]
 
 mod card;
-mod parts;
 mod replayed;
 
 pub use card::list_card;
-
-// What the listing takes from replay's answer: the bytes lost and the place where a writer resumes.
-#[derive(Clone, Copy)]
-pub struct Numbers {
-    pub lost: u64,
-    pub resumed: usize,
-}

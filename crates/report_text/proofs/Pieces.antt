@@ -6,7 +6,8 @@ use mathlib.Core.List.{List, ◌++◌}
 use Prim.Native.Nat.{ℕ}
 use lib.ListN.{length, get_or, length-replicate}
 use Rattle.slices.specs.Bytes.{zeros}
-use Rattle.listing.specs.declared.Listed.{Listed}
+use Rattle.std.specs.Prelude.{Option}
+use Rattle.report.specs.declared.MeanLength.{MeanLength}
 use Rattle.listing.specs.Writing.{written, listed}
 use Rattle.listing.specs.Internal.{Wrote, Lists}
 use Rattle.listing.specs.Listing.{numbered, number_line, refused_word, space, line_feed, refusal}
@@ -45,12 +46,12 @@ parts_on w k n a b c = on a (on b c)
 
 -- ---- the mean's line by its cases
 
-pub mean_is : {s t : List ℕ} {p q : ℕ} (a b : MeanAnswer) → a ≡ b → Wrote s p (mean_line b) q t → Wrote s p (mean_line a) q t
-mean_is a b e x = reads (ap mean_line (sym e)) x
+pub mean_is : {s t : List ℕ} {p q : ℕ} (a : MeanAnswer) (m n : Option MeanLength) → a ≡ Ok m → m ≡ n → Wrote s p (mean_line (Ok n)) q t → Wrote s p (mean_line a) q t
+mean_is a m n e f x = reads (ap (λ (y : Option MeanLength). mean_line (Ok y)) (sym f) ∙ ap mean_line (sym e)) x
 
-pub none_is : {s t : List ℕ} {p q : ℕ} (a : MeanAnswer) → a ≡ Ok None → Wrote s p no_mean_line q t → Wrote s p (mean_line a) q t
+pub none_is : {s t : List ℕ} {p q : ℕ} (a : MeanAnswer) (m : Option MeanLength) → a ≡ Ok m → m ≡ None → Wrote s p no_mean_line q t → Wrote s p (mean_line a) q t
 unfolding mean_line
-none_is a e x = reads (ap mean_line (sym e)) x
+none_is a m e f x = mean_is a m None e f x
 
 pub refused_is : {s t : List ℕ} {p q : ℕ} (a : MeanAnswer) (k : ReportRefusal) {n : ℕ} → a ≡ Err k → n ≡ refusal_number k → Wrote s p (number_line refused_word n) q t → Wrote s p (mean_line a) q t
 unfolding mean_line refusal
@@ -58,7 +59,7 @@ refused_is a k e f x = reads (ap (number_line refused_word) f ∙ ap mean_line (
 
 -- ---- a whole text
 
-lists : {s u : List ℕ} {q : ℕ} {xs : List ℕ} (a : Listed) → Wrote s 0 xs q u → a ≡ listed (length u) q → Lists s xs a u
+lists : {s u : List ℕ} {q : ℕ} {xs : List ℕ} (a : Option ℕ) → Wrote s 0 xs q u → a ≡ listed (length u) q → Lists s xs a u
 lists {s} {u} {q} {xs} a w is = (is ∙ ap₂ listed (wrote-length w) w.place ∙ listed-behind (length s) (length xs), w.buffer)
 
 text_is : (report : List ℕ) → report_arranged report ≡ true → count_lines (report_numbers report) ++ mean_line (mean_answer report) ≡ report_text report
@@ -69,29 +70,29 @@ text_not : (report : List ℕ) → report_arranged report ≡ false → refusal 
 unfolding report_text
 text_not report e = sym (ap (λ (b : Bool). cond b (count_lines (report_numbers report) ++ mean_line (mean_answer report)) (refusal 6)) e)
 
-pub arranged_on : {s t u : List ℕ} {p q : ℕ} (report ns : List ℕ) (m : MeanAnswer) (a : Listed) → report_arranged report ≡ true → ns ≡ report_numbers report
+pub arranged_on : {s t u : List ℕ} {p q : ℕ} (report ns : List ℕ) (m : MeanAnswer) (a : Option ℕ) → report_arranged report ≡ true → ns ≡ report_numbers report
     → m ≡ mean_answer report → Wrote s 0 (count_lines ns) p t → Wrote t p (mean_line m) q u → a ≡ listed (length u) q → Lists s (report_text report) a u
 arranged_on report ns m a e en em x y is =
     lists a (reads (ap₂ (λ (l : List ℕ) (k : MeanAnswer). count_lines l ++ mean_line k) en em ∙ text_is report e) (on x y)) is
 
-pub line_on : {s t u v z : List ℕ} {p q r m : ℕ} (n : ℕ) (name : List ℕ) (a : Listed) → Wrote s 0 (numbered refused_word n) p t → Wrote t p space q u
+pub line_on : {s t u v z : List ℕ} {p q r m : ℕ} (n : ℕ) (name : List ℕ) (a : Option ℕ) → Wrote s 0 (numbered refused_word n) p t → Wrote t p space q u
     → Wrote u q name r v → Wrote v r line_feed m z → a ≡ listed (length z) m → Lists s (refused_line n name) a z
 unfolding refused_line
 line_on n name a w x y z is = lists a (on w (on x (on y z))) is
 
 -- in a buffer that was cleared before
-cleared : (s z u text : List ℕ) (a : Listed) → z ≡ zeros (length s) → Lists z text a u
+cleared : (s z u text : List ℕ) (a : Option ℕ) → z ≡ zeros (length s) → Lists z text a u
     → (a ≡ listed (length s) (length text)) × (u ≡ written (zeros (length s)) 0 text)
 cleared s z u text a e l = (
   l.0 ∙ ap (λ (n : ℕ). listed n (length text)) (ap length e ∙ length-replicate {A = ℕ} (length s) 0),
   l.1 ∙ ap (λ (b : List ℕ). written b 0 text) e,
 )
 
-pub whole_text : (s z u report : List ℕ) (a : Listed) → z ≡ zeros (length s) → Lists z (report_text report) a u
+pub whole_text : (s z u report : List ℕ) (a : Option ℕ) → z ≡ zeros (length s) → Lists z (report_text report) a u
     → (a ≡ listed (length s) (length (report_text report))) × (u ≡ written (zeros (length s)) 0 (report_text report))
 whole_text s z u report a e l = cleared s z u (report_text report) a e l
 
-pub refused_text : (s z u report : List ℕ) (a : Listed) → report_arranged report ≡ false → z ≡ zeros (length s) → Lists z (refusal 6) a u
+pub refused_text : (s z u report : List ℕ) (a : Option ℕ) → report_arranged report ≡ false → z ≡ zeros (length s) → Lists z (refusal 6) a u
     → (a ≡ listed (length s) (length (report_text report))) × (u ≡ written (zeros (length s)) 0 (report_text report))
 refused_text s z u report a n e l =
     cleared s z u (report_text report) a e (subst (λ (text : List ℕ). Lists z text a u) (text_not report n) l)

@@ -1,8 +1,7 @@
 -- Claim.
 -- What is claimed of the text for a report; each is proved in proofs/ under the same name in snake case.
 -- Assumes nothing.
-use Rattle.std.specs.Prelude.{None, Ok, ◌≡◌, List, [], ◌∷◌, ℕ, ◌≤◌, length}
-use Rattle.listing.specs.declared.Listed.TheVariants.{Bytes as bytes}
+use Rattle.std.specs.Prelude.{Some, None, Ok, ◌≡◌, List, [], ◌∷◌, ℕ, ◌≤◌, length}
 use Rattle.listing.specs.Writing.{listed}
 use Rattle.report.specs.Feed.{mean}
 use Rattle.report_text.specs.Text.{row_line, full_word, mean_line, refused_line, report_text}
@@ -12,7 +11,7 @@ abbrev pub ReportShort : Type 0
 ReportShort = (report : List ℕ) → length (report_text report) ≤ 1024
 
 abbrev pub ReportRoom : Type 0
-ReportRoom = (report : List ℕ) (room : ℕ) → 1024 ≤ room → listed room (length (report_text report)) ≡ bytes (length (report_text report))
+ReportRoom = (report : List ℕ) (room : ℕ) → 1024 ≤ room → listed room (length (report_text report)) ≡ Some (length (report_text report))
 
 -- some lines, letter by letter
 pub record TextExamples : Type 0 where

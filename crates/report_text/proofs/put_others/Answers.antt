@@ -3,5 +3,5 @@
 use Rattle.report_text.proofs.Pieces.{others_on}
 use Rattle.report_text.proofs.put_others.Goals as goal
 
-pub returns : goal.returns
-returns c = others_on _ c.put_number_line-p.ensures c.put_number_line-p-2.ensures c.put_number_line.ensures
+pub returns-clause-puts : goal.returns-clause-puts
+returns-clause-puts c = others_on _ c.put_number_line.ensures.puts c.put_number_line-2.ensures.puts c.put_number_line-3.ensures.puts

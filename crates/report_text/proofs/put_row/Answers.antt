@@ -3,5 +3,5 @@
 use Rattle.report_text.proofs.Pieces.{row_on}
 use Rattle.report_text.proofs.put_row.Goals as goal
 
-pub returns : goal.returns
-returns c = row_on _ _ _ c.put_numbered-p.ensures c.put_number_line.ensures
+pub returns-clause-puts : goal.returns-clause-puts
+returns-clause-puts c = row_on _ _ _ c.put_numbered.ensures.puts c.put_number_line.ensures.puts

@@ -3,5 +3,5 @@
 use Rattle.report_text.proofs.Pieces.{table_on}
 use Rattle.report_text.proofs.put_table.Goals as goal
 
-pub returns : goal.returns
-returns c = table_on _ c.put_row-p.ensures c.put_row-p-2.ensures c.put_row-p-3.ensures c.put_row.ensures
+pub returns-clause-puts : goal.returns-clause-puts
+returns-clause-puts c = table_on _ c.put_row.ensures.puts c.put_row-2.ensures.puts c.put_row-3.ensures.puts c.put_row-4.ensures.puts

@@ -4,16 +4,15 @@ use mathlib.Core.Path.{refl, sym}
 use lib.Seq.{length-take-le}
 use Rattle.cutdown_card.proofs.Sizes.{too_short, too_long_lem, no_room_lem, in_the_buffer}
 use Rattle.cutdown_card.proofs.card.cut_down.Goals as goal
+use Rattle.cutdown_card.proofs.card.cut_down.Goals.{then-card-lt-BLOCK_NUM_BYTES-via-then-card-lt-BLOCK_NUM_BYTES, then-card-lt-BLOCK_NUM_BYTES-via-else-card-lt-BLOCK_NUM_BYTES+then-card-gt-MAX_CARD_LEN}
 
 pub returns-then-card-lt-BLOCK_NUM_BYTES : goal.returns-then-card-lt-BLOCK_NUM_BYTES
 returns-then-card-lt-BLOCK_NUM_BYTES c =
     let a = c.args in
-    too_short a.card.now a.out.now c.if-card-lt-BLOCK_NUM_BYTES.true
-
-pub returns-then-card-gt-MAX_CARD_LEN : goal.returns-then-card-gt-MAX_CARD_LEN
-returns-then-card-gt-MAX_CARD_LEN c =
-    let a = c.args in
-    too_long_lem a.card.now a.out.now c.if-card-gt-MAX_CARD_LEN.true
+    elim c.then-card-lt-BLOCK_NUM_BYTES.branch [
+      | then-card-lt-BLOCK_NUM_BYTES-via-then-card-lt-BLOCK_NUM_BYTES w ↦ too_short a.card.now a.out.now w.if-card-lt-BLOCK_NUM_BYTES.true
+      | then-card-lt-BLOCK_NUM_BYTES-via-else-card-lt-BLOCK_NUM_BYTES+then-card-gt-MAX_CARD_LEN w ↦ too_long_lem a.card.now a.out.now w.if-card-gt-MAX_CARD_LEN.true
+    ]
 
 pub returns-then-out-len : goal.returns-then-out-len
 returns-then-out-len c =

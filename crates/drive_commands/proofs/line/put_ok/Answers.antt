@@ -3,5 +3,5 @@
 use Rattle.drive_commands.proofs.Pieces.{ok_on}
 use Rattle.drive_commands.proofs.line.put_ok.Goals as goal
 
-pub returns : goal.returns
-returns c = ok_on _ _ _ _ _ c.put_bytes-p.ensures c.put_told-p.ensures c.put_numbered-p.ensures c.put_number_line.ensures
+pub returns-clause-puts : goal.returns-clause-puts
+returns-clause-puts c = ok_on _ _ c.put_bytes.ensures.puts c.put_told.ensures.puts c.put_numbered.ensures.puts c.put_number_line.ensures.puts

@@ -3,5 +3,5 @@
 use Rattle.drive_commands.proofs.Pieces.{refusal_on}
 use Rattle.drive_commands.proofs.line.put_refused.Goals as goal
 
-pub returns : goal.returns
-returns c = refusal_on _ c.put_number_line.ensures
+pub returns-clause-puts : goal.returns-clause-puts
+returns-clause-puts c = refusal_on _ c.put_number_line.ensures.puts

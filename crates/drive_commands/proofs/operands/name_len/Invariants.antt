@@ -1,8 +1,6 @@
 -- `drive_commands::operands::name_len` meets its contract.
 -- Assumes nothing.
-use mathlib.Core.Path.{◌≡◌}
-use Prim.Native.Nat.{◌≤◌}
-use lib.ListN.{take}
+use Rattle.std.proofs.Common.{◌≡◌, ◌≤◌, take}
 use Rattle.drive_commands.specs.Commands.{trimmed}
 use Rattle.drive_commands.proofs.operands.name_len.Given as goal
 

@@ -3,8 +3,8 @@
 use Rattle.drive_text.proofs.Turning.{end_none, end_some}
 use Rattle.drive_text.proofs.run.put_end.Goals as goal
 
-pub returns-then-input-p : goal.returns-then-input-p
-returns-then-input-p c = end_none _ _ _ _ c.if-input-p.true
+pub returns-then-p-input-clause-puts : goal.returns-then-p-input-clause-puts
+returns-then-p-input-clause-puts c = end_some _ _ c.if-p-input.true c.put_refused.ensures.puts
 
-pub returns : goal.returns
-returns c = end_some _ _ c.if-input-p.false c.put_refused.ensures
+pub returns-else-p-input-clause-puts : goal.returns-else-p-input-clause-puts
+returns-else-p-input-clause-puts c = end_none _ _ _ _ c.if-p-input.false

@@ -1,16 +1,21 @@
 -- `drive_text::run::run` meets its contract.
 -- Assumes nothing.
-use Prim.Native.Nat.{◌-◌}
-use lib.ListN.{length}
-use Rattle.abi_call.specs.OnBytes.{lent_bytes}
+use Rattle.std.proofs.Common.{◌-◌, length}
+use Rattle.lent.specs.Memory.{SameLog, SameMemory}
+use Rattle.abi_call.specs.OnBytes.{bytes_lent}
+use Rattle.listing.specs.Internal.{SameOut}
 use Rattle.drive_text.proofs.Turning.{Going}
 use Rattle.drive_text.proofs.run.run.Given as goal
 
-abbrev pub invariant-loop-log : goal.invariant-loop-log
-invariant-loop-log l =
-    Going l.input
-    (lent_bytes l.initial.log l.initial.write_position l.initial.scratch l.initial.names l.initial.payloads l.initial.entries l.initial.largest l.initial.table)
-    (lent_bytes l.log l.write_position l.scratch l.names l.payloads l.entries l.largest l.table) l.initial.out l.out l.p l.at
+abbrev pub invariant-loop-command : goal.invariant-loop-command
+invariant-loop-command l =
+    record {
+      same : SameOut l.initial.text l.text;
+      same_log : SameLog l.initial.writer l.writer;
+      same_memory : SameMemory l.initial.memory l.memory;
+      going :
+          Going l.input (bytes_lent l.initial.writer l.initial.memory) (bytes_lent l.writer l.memory) l.initial.text.out.now l.initial.text.at l.text.out.now l.p l.text.at;
+    }
 
-abbrev pub decreases-loop-log : goal.decreases-loop-log
-decreases-loop-log l = length l.input - l.p
+abbrev pub decreases-loop-command : goal.decreases-loop-command
+decreases-loop-command l = length l.input - l.p

@@ -2,16 +2,17 @@
 -- Assumes nothing.
 use Rattle.readout_text.proofs.Sizes.{too_short, too_long_lem, just_sized, still_clear, refused_as, sized_as}
 use Rattle.readout_text.proofs.card.list_card.Goals as goal
+use Rattle.readout_text.proofs.card.list_card.Goals.{then-input-lt-BLOCK_NUM_BYTES-via-then-input-lt-BLOCK_NUM_BYTES, then-input-lt-BLOCK_NUM_BYTES-via-else-input-lt-BLOCK_NUM_BYTES+then-input-gt-MAX_CARD_LEN}
 
 pub returns-then-input-lt-BLOCK_NUM_BYTES : goal.returns-then-input-lt-BLOCK_NUM_BYTES
 returns-then-input-lt-BLOCK_NUM_BYTES c =
     let a = c.args in
-    refused_as _ _ a.out.now _ _ _ (too_short a.input.now c.if-input-lt-BLOCK_NUM_BYTES.true) c.clear.ensures c.refused.ensures
-
-pub returns-then-input-gt-MAX_CARD_LEN : goal.returns-then-input-gt-MAX_CARD_LEN
-returns-then-input-gt-MAX_CARD_LEN c =
-    let a = c.args in
-    refused_as _ _ a.out.now _ _ _ (too_long_lem a.input.now c.if-input-gt-MAX_CARD_LEN.true) c.clear.ensures c.refused-then-input-gt-MAX_CARD_LEN.ensures
+    elim c.then-input-lt-BLOCK_NUM_BYTES.branch [
+      | then-input-lt-BLOCK_NUM_BYTES-via-then-input-lt-BLOCK_NUM_BYTES w ↦
+          refused_as _ _ a.out.now _ _ _ (too_short a.input.now w.if-input-lt-BLOCK_NUM_BYTES.true) c.clear.ensures (rw c.number.ensures at c.refused.ensures)
+      | then-input-lt-BLOCK_NUM_BYTES-via-else-input-lt-BLOCK_NUM_BYTES+then-input-gt-MAX_CARD_LEN w ↦
+          refused_as _ _ a.out.now _ _ _ (too_long_lem a.input.now w.if-input-gt-MAX_CARD_LEN.true) c.clear.ensures (rw c.number.ensures at c.refused.ensures)
+    ]
 
 pub list_sized-requires : goal.list_sized-requires
 list_sized-requires c =

@@ -1,56 +1,38 @@
 -- `readout_text::replayed::list_replayed` meets its contract: what replay leaves is what the listing asks, and the marks and the listing behind them are the text.
 -- Assumes nothing.
-use mathlib.Core.Path.{◌≡◌, subst}
-use mathlib.Core.Bool.{false, true}
-use mathlib.Core.List.{List}
-use Prim.Native.Nat.{ℕ, ◌≤◌}
-use lib.ListN.{length, replicate}
-use Rattle.slices.specs.Bytes.{zeros}
-use Rattle.queues.specs.declared.RecordEntry.{RecordEntry}
-use Rattle.queues.specs.Layout.{memory, meaning, arranged, blank}
-use Rattle.calls.specs.Refusals.{log_refused}
-use Rattle.read_step.specs.declared.ReplayAnswer.{ReplayAnswer}
-use Rattle.contracts.specs.Promises.{ReplayKept}
-use Rattle.listing.specs.declared.Listed.{Listed}
-use Rattle.listing.specs.Writing.{written}
-use Rattle.listing.specs.Internal.{behind, ListsFrom}
-use Rattle.listing.specs.Listing.{listing}
+use Rattle.std.proofs.Common.{◌≡◌, true, List, Option, ℕ, length, sym, subst, rules}
+use Rattle.queues.specs.Layout.{Memory, arranged, meaning}
+use Rattle.lent.specs.Memory.{memory_of}
 use Rattle.listing.specs.Claims.{LogFits}
-use Rattle.shift_lines.specs.Shifts.{marks_text}
-use Rattle.readout_text.specs.declared.Numbers.{Numbers}
-use Rattle.readout_text.specs.Kept.{numbers_of, closed_answer, closed_text, lent_to, CardKept}
-use Rattle.readout_text.proofs.Between.{as_replayed, may_list, card_kept}
+use Rattle.listing.specs.Internal.{ListsFrom}
+use Rattle.listing.specs.Listing.{listing}
+use Rattle.readout_text.specs.Kept.{CardKept}
+use Rattle.readout_text.proofs.Between.{may, refused_kept, replayed_kept, looked_at}
 use Rattle.readout_text.proofs.replayed.list_replayed.Goals as goal
 
-module _ (input scratch ns ps ks t out : List ℕ) (asked : (log_refused input ≡ false) × ((1024 ≤ length ks) × (out ≡ zeros (length out)))) (x : RecordEntry) (x-is : x ≡ blank)
-    (a : ReplayAnswer) (scratch' ns' ps' : List ℕ) (es' : List RecordEntry) (ks' t' : List ℕ)
-    (kept : ReplayKept input scratch (memory ns ps (replicate 1024 x) t) ks a scratch' (memory ns' ps' es' t') ks') where
-  kept_blank : ReplayKept input scratch (lent_to ns ps t) ks a scratch' (memory ns' ps' es' t') ks'
-  kept_blank = subst (λ (y : RecordEntry). ReplayKept input scratch (memory ns ps (replicate 1024 y) t) ks a scratch' (memory ns' ps' es' t') ks') x-is kept
+-- the buffer as it is left
+left_in : {input scratch : List ℕ} {m : Memory} {ks out : List ℕ} {r : Option ℕ} {scratch' : List ℕ} {m' : Memory} {ks' : List ℕ} (u v : List ℕ) → u ≡ v
+    → CardKept input scratch m ks out r scratch' m' ks' v → CardKept input scratch m ks out r scratch' m' ks' u
+left_in {input} {scratch} {m} {ks} {out} {r} {scratch'} {m'} {ks'} u v e k = subst (λ (x : List ℕ). CardKept input scratch m ks out r scratch' m' ks' x) (sym e) k
 
-  module _ (numbers : Numbers) (numbers-is : numbers ≡ numbers_of a) where
-    listing_may : (arranged (memory ns' ps' es' t') ≡ true) × LogFits numbers.resumed (length input)
-    listing_may =
-        rw numbers-is (may_list input scratch scratch' (lent_to ns ps t) (memory ns' ps' es' t') a asked.0
-        (as_replayed input scratch scratch' ns ps ks t (memory ns' ps' es' t') ks' a asked.1.0 kept_blank))
+-- the listing of the memory looked at
+lists_of : (s t : List ℕ) (p b q n : ℕ) {x y : Memory} (r : Option ℕ) → x ≡ y → ListsFrom s p (listing (meaning x) b q n) r t → ListsFrom s p (listing (meaning y) b q n) r t
+lists_of s t p b q n r e l = subst (λ (z : Memory). ListsFrom s p (listing (meaning z) b q n) r t) e l
 
-    -- the marks end at `at`, the listing behind them is shown, and the whole is closed
-    listed_whole : (at : ℕ) (s out1 out2 out3 : List ℕ) (shown r : Listed)
-        → (at ≡ behind (length out) 0 (length (marks_text input (length scratch')))) × ((s ≡ zeros (length scratch')) × (out1 ≡ written out 0 (marks_text input (length scratch'))))
-        → ListsFrom out1 at (listing (meaning (memory ns' ps' es' t')) numbers.lost numbers.resumed (length input)) shown out2
-        → (r ≡ closed_answer a shown (length out2)) × (out3 ≡ closed_text a out2)
-        → CardKept input scratch ns ps ks t out r s ns' ps' ks' t' out3
-    listed_whole at s out1 out2 out3 shown r marks lists closed =
-        rw (closed.0, closed.1, lists.0, lists.1, marks.0, marks.1.0, marks.1.1, numbers-is)
-        (card_kept input scratch ns ps ks t out a scratch' ns' ps' es' ks' t' asked.0 asked.1.0 asked.1.1 kept_blank)
+pub list-requires : goal.list-requires
+list-requires c =
+    let h = c.held-held.ensures in
+    subst (λ (x : Memory). (arranged x ≡ true) × LogFits c.in-Ok.replayed.resumed (length c.args.input.now)) (sym (looked_at h.names h.payloads h.entries h.table))
+    (may c.args.input.now c.args.scratch.now (memory_of c.args.memory.now) c.args.memory.now.largest.now c.args.out.now c.requires.0 c.requires.1 _ _ _ _ c.replay.ensures.replayed _ c.in-Ok.is)
 
-pub list-listed-requires : goal.list-listed-requires
-list-listed-requires c =
-    listing_may c.args.input.now c.args.scratch.now c.args.names.now c.args.payloads.now c.args.largest.now c.args.table.now c.args.out.now c.requires _ c.blank-records.ensures
-    _ _ _ _ _ _ _ c.replay-answer.ensures _ c.numbers_of-numbers.ensures
+pub returns-in-Ok-clause-kept : goal.returns-in-Ok-clause-kept
+returns-in-Ok-clause-kept c =
+    let h = c.held-held.ensures in
+    left_in _ _ (search rules)
+    (replayed_kept c.args.input.now c.args.scratch.now (memory_of c.args.memory.now) c.args.memory.now.largest.now c.args.out.now c.requires.0 c.requires.1 _ _ _ _ c.replay.ensures.replayed _ _ _ _ c.in-Ok.is
+    c.put_shifts.ensures.puts c.put_shifts.ensures.scratch_left (lists_of c.put_shifts.new.text.out.now _ c.put_shifts.new.text.at c.in-Ok.replayed.lost_bytes c.in-Ok.replayed.resumed (length c.args.input.now) c.list.result (looked_at h.names h.payloads h.entries h.table) c.list.ensures.lists))
 
-pub returns : goal.returns
-returns c =
-    listed_whole c.args.input.now c.args.scratch.now c.args.names.now c.args.payloads.now c.args.largest.now c.args.table.now c.args.out.now c.requires _ c.blank-records.ensures
-    _ _ _ _ _ _ _ c.replay-answer.ensures _ c.numbers_of-numbers.ensures
-    _ _ _ _ _ _ _ c.put_shifts-at.ensures c.list-listed.ensures c.close_card.ensures
+pub returns-in-Err-clause-kept : goal.returns-in-Err-clause-kept
+returns-in-Err-clause-kept c =
+    refused_kept c.args.input.now c.args.scratch.now (memory_of c.args.memory.now) c.args.memory.now.largest.now c.args.out.now c.requires.0 c.requires.1 _ _ _ _ c.replay.ensures.replayed _ _ _ _ c.in-Err.is
+    c.number.ensures c.refused.ensures

@@ -1,0 +1,9 @@
+-- `listing::Text::put_hex_run` meets its contract. Invariant: the bytes so far are written.
+-- Assumes nothing.
+use Rattle.std.proofs.Common.{take}
+use Rattle.listing.specs.Digits.{hex_run}
+use Rattle.listing.specs.Internal.{SameOut, Puts}
+use Rattle.listing.proofs.Text.put_hex_run.Given as goal
+
+abbrev pub invariant-loop-b : goal.invariant-loop-b
+invariant-loop-b l = SameOut l.initial.self l.self × Puts l.initial.self (hex_run (take l.b-index l.bytes)) l.self
