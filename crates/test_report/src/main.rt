@@ -4,7 +4,7 @@
 // is to be printed.
 #![tactic(auto)]
 
-use report::Mean;
+use report::MeanLength;
 use std::alloc::Global;
 use std::io::{self, Read};
 
@@ -60,7 +60,7 @@ fn print_mean(rt: &impl Print, held: &[u8]) -> io::Result<()> {
     match report::mean(held) {
         Ok(
             Some(
-                Mean {
+                MeanLength {
                     whole,
                     remainder,
                     count,
