@@ -10,6 +10,7 @@ use crate::CallTold;
 use multi_record_log::{Called, Refusal, Replayed};
 
 // The position that an append names.
+#[tactic(auto, unfolding(crate::specs::Told::position_named))]
 pub fn at_position(named: u64, position: u64) -> Option<u64>
     ensures { position_of result ≡ position_named named position }
 {
@@ -19,6 +20,7 @@ pub fn at_position(named: u64, position: u64) -> Option<u64>
 impl From<Result<Called, Refusal>> for CallTold {
     ghost from_gives = { λ answer told. told ≡ tell_call (called_numbers answer) };
 
+    #[tactic(auto, unfolding(crate::specs::Told::tell_call, crate::specs::Told::has_position, crate::specs::Told::position_or0, contracts::specs::Numbers::called_numbers))]
     fn from(answer: Result<Called, Refusal>) -> CallTold {
         match answer {
             Ok(called) => CallTold {
@@ -41,6 +43,7 @@ impl From<Result<Called, Refusal>> for CallTold {
     }
 }
 
+#[tactic(auto, unfolding(crate::specs::Told::tell_replay))]
 pub fn tell_replay(
     answer: Result<Replayed, Refusal>,
     lost: &mut u64,
@@ -65,6 +68,7 @@ pub fn tell_replay(
     }
 }
 
+#[tactic(auto, unfolding(copy_contracts::specs::Promises::copy_numbers))]
 pub fn tell_copy(answer: Result<usize, Refusal>, end: &mut u64) -> u64
     ensures { copy_told result end.new ≡ copy_numbers answer }
 {

@@ -5,6 +5,7 @@ ghost use Rattle.mrecordlog.specs.Reported.{mean_told, tell_mean};
 
 use report::{MeanLength, ReportRefusal};
 
+#[tactic(auto, unfolding(crate::specs::Reported::tell_mean))]
 fn tell_mean(
     answer: Result<Option<MeanLength>, ReportRefusal>,
     found: &mut u64,

@@ -13,6 +13,7 @@ use std::ops::Bound;
 
 // An end of a range, by its kind.
 // Kept: the C interface gives the kind as a number.
+#[tactic(auto, unfolding(crate::specs::Told::bound_of))]
 fn bound(kind: u64, position: u64) -> Bound<u64>
     ensures { result ≡ bound_of kind position }
 {
@@ -25,6 +26,7 @@ fn bound(kind: u64, position: u64) -> Bound<u64>
     Bound::Unbounded
 }
 
+#[tactic(auto, unfolding(crate::specs::Told::tell_range))]
 fn tell_range(
     answer: Result<QuestionAnswer, Refusal>,
     found: &mut u64,
@@ -54,6 +56,7 @@ fn tell_range(
     }
 }
 
+#[tactic(auto, unfolding(crate::specs::Told::tell_positions, contracts::specs::Numbers::positions_numbers))]
 fn tell_positions(
     answer: Result<QuestionAnswer, Refusal>,
     first: &mut u64,
@@ -75,6 +78,7 @@ fn tell_positions(
     }
 }
 
+#[tactic(auto, unfolding(crate::specs::Told::tell_largest, crate::specs::Told::tell_found, contracts::specs::Numbers::largest_numbers))]
 fn tell_largest(
     answer: Result<QuestionAnswer, Refusal>,
     found: &mut u64,
