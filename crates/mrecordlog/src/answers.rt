@@ -20,7 +20,7 @@ pub fn at_position(named: u64, position: u64) -> Option<u64>
 impl From<Result<Called, Refusal>> for CallTold {
     ghost from_gives = { λ answer told. told ≡ tell_call (called_numbers answer) };
 
-    #[tactic(auto, unfolding(crate::specs::Told::tell_call, crate::specs::Told::has_position, crate::specs::Told::position_or0, contracts::specs::Numbers::called_numbers))]
+    #[tactic(auto, unfolding(crate::specs::Told::tell_call, contracts::specs::Numbers::called_numbers))]
     fn from(answer: Result<Called, Refusal>) -> CallTold {
         match answer {
             Ok(called) => CallTold {
