@@ -65,11 +65,19 @@ fn three_frames(log: &mut [u8], scratch: &mut [u8], data: &[u8]) {
     case.cuts(log, scratch, data, 70124, 70129);
 }
 
+// The data end in these bytes, where they have as many.
+fn end_with(data: &mut [u8], last: &[u8]) {
+    if last.len() <= data.len() {
+        let start = data.len() - last.len();
+        data[start..].copy_from_slice(last);
+    }
+}
+
 // The last ten bytes of the same record are zeros.
 fn zeros_missing(log: &mut [u8], scratch: &mut [u8]) {
     let mut data = [0u8; 70000];
     count_up(&mut data);
-    data[69990..].fill(0);
+    end_with(&mut data, &[0; 10]);
     text(b"zeros at its end\n");
     let case = Case::new(100, 70000, 10);
     case.cuts(log, scratch, &data, 70112, 70129);
@@ -133,7 +141,7 @@ fn fits_zeros(scratch: &mut [u8], data: &[u8]) {
 fn fitting(scratch: &mut [u8]) {
     let mut data = [0u8; 70];
     count_up(&mut data);
-    data[65..].copy_from_slice(&[0x41, 0x06, 0x71, 0xdb, 0x01]);
+    end_with(&mut data, &[0x41, 0x06, 0x71, 0xdb, 0x01]);
     fits_zeros(scratch, &data);
 }
 

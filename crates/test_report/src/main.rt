@@ -72,6 +72,20 @@ fn print_mean(rt: &impl Print, held: &[u8]) -> io::Result<()> {
     }
 }
 
+fn print_report(rt: &impl Print, held: &[u8]) -> io::Result<()> {
+    let len = held.len();
+    print!(rt; "report of {len}:")?;
+    print_numbers(rt, held)
+}
+
+// A log fed to the report.
+fn feed(rt: &impl Print, held: &mut [u8], log: &[u8]) -> io::Result<()> {
+    let number = report::number(report::feed(held, log));
+    let len = log.len();
+    print!(rt; "log of {len}: {number}")?;
+    print_numbers(rt, held)
+}
+
 fn main(rt: HostRuntime) -> io::Result<()> {
     let mut input = rt.stdin();
     let mut held = Vec::new(rt.alloc());
@@ -80,17 +94,9 @@ fn main(rt: HostRuntime) -> io::Result<()> {
             None => break,
             Some(Item::Report(report)) => {
                 held = report;
-                let len = held.len();
-                print!(rt; "report of {len}:")?;
-                print_numbers(&rt, held.as_slice())?;
+                print_report(&rt, held.as_slice())?;
             }
-            Some(Item::Log(log)) => {
-                let answer = report::feed(held.as_mut_slice(), log.as_slice());
-                let len = log.len();
-                let number = report::number(answer);
-                print!(rt; "log of {len}: {number}")?;
-                print_numbers(&rt, held.as_slice())?;
-            }
+            Some(Item::Log(log)) => feed(&rt, held.as_mut_slice(), log.as_slice())?,
             Some(Item::Mean) => print_mean(&rt, held.as_slice())?,
         }
     }
