@@ -47,10 +47,10 @@ impl<O: Write, E: Write> Feeder<'_, O, E> {
     // A card that was read, and the line of one that is refused.
     fn feed(&mut self, name: &[u8], card: &[u8]) -> Result<(), Stopped> {
         match report_text::feed_card(&mut self.held, card) {
-            0 => Ok(()),
-            number => {
+            Ok(()) => Ok(()),
+            Err(refusal) => {
                 let mut text = [0u8; 8192];
-                let listed = report_text::list_refused(number, name, &mut text);
+                let listed = report_text::list_refused(refusal.number(), name, &mut text);
                 self.show(listed, &text)
             }
         }

@@ -18,6 +18,7 @@ pub struct ReadFailed {
 }
 
 // Whether the file may have more, has ended, or could not be read, and why not.
+// Kept: no plainer: one read has these three outcomes, each with its count of bytes, and a Result of an Option would say the count three times.
 #[derive(Clone, Copy)]
 enum State {
     Going,

@@ -63,11 +63,9 @@ fn bytes_share(t: &[u32], crc: u32, s: &[u8], k: usize) -> u32
 {
     let mut r = 0;
     let mut c = crc;
-    let mut i = 0;
-    while i < s.len() {
-        r = r ^ byte_share(t, s.len() - i - 1 + k, c, s[i]);
-        c = c >> 8;
-        i += 1;
+    for (i, b) in s.iter().enumerate() {
+        r ^= byte_share(t, s.len() - i - 1 + k, c, *b);
+        c >>= 8;
     }
     r
 }
@@ -87,10 +85,8 @@ fn by_ones(t: &[u32], crc: u32, data: &[u8]) -> u32
     ensures { result ≡ run crc (bits «data».now) }
 {
     let mut c = crc;
-    let mut i = 0;
-    while i < data.len() {
-        c = byte_by_halves(t, c, data[i]);
-        i += 1;
+    for b in data {
+        c = byte_by_halves(t, c, *b);
     }
     c
 }

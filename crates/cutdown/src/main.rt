@@ -24,7 +24,7 @@ fn cut<O: Write, E: Write>(output: &mut O, errors: &mut E, input: &[u8]) {
     let mut fresh = [0u8; 65536];
     match cutdown_card::cut_down(input, &mut fresh) {
         Ok(n) => write(output, errors, &fresh[..n]),
-        Err(NotCut::Refused(number)) => tell(errors, number),
+        Err(NotCut::Refused(refusal)) => tell(errors, refusal.number()),
         Err(NotCut::NoRoom) => (),
     }
 }

@@ -4,11 +4,12 @@
 mod card;
 mod parts;
 
+use calls::Refusal;
 pub use card::cut_down;
 
 // Why there is no fresh card: replay or the copy refused it, or the buffer is too short for its blocks.
 #[derive(Clone, Copy, PartialEq, Eq)]
 pub enum NotCut {
-    Refused(u64),
+    Refused(Refusal),
     NoRoom,
 }

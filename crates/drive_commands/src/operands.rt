@@ -5,7 +5,6 @@ ghost use Rattle.drive_commands.specs.Commands.{name_in, number_in, position_by,
 ghost use Rattle.drive_commands.specs.Internal.{byte_of, starts_command};
 
 use crate::Command;
-use call_decide::AtPosition;
 use fields::u64_at;
 
 const NAME_LEN: usize = 8;
@@ -77,13 +76,10 @@ pub fn number_in(operands: &[u8]) -> u64
 }
 
 // The position of an append: 2^64-1 is none.
-pub fn at_position(operands: &[u8]) -> AtPosition
+pub fn at_position(operands: &[u8]) -> Option<u64>
     requires { 16 ≤ length operands.now }
     ensures { position_of result ≡ position_by (number_in operands.now) }
 {
     let position = number_in(operands);
-    if position == u64::MAX {
-        return AtPosition::Next;
-    }
-    AtPosition::Named(position)
+    (position != u64::MAX).then_some(position)
 }

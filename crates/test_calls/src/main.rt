@@ -2,6 +2,7 @@
 // what should come by document 01; examples/counts/make.py works out the last ones, with both counts of bytes.
 #![tactic(auto)]
 
+// Kept: no plainer: `test_calls` and `test_rust_answers` are one program over two inputs, and a crate has one stdin and one stdout.
 use std::io::{self, Read};
 
 fn main(rt: HostRuntime) -> io::Result<()> {

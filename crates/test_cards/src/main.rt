@@ -25,7 +25,7 @@ fn next_card(alloc: Global, input: &mut impl Read) -> std::io::Result<Option<Vec
     }
     let [a, b, c, d, e, f] = head;
     let mut card = vec![in alloc; 0u8; length(a, b, c)]?;
-    let Some(stored) = card.as_mut_slice().get_mut(..length(d, e, f)) else {
+    let Some(stored) = card.get_mut(..length(d, e, f)) else {
         return Ok(None);
     };
     input.read_exact(stored)?;

@@ -28,10 +28,10 @@ fn do_command(memory: &mut Memory<'_>, command: Option<Command>, line: Line<'_>)
         Some(Command::Lend) => {}
         Some(Command::Text(kind)) => print(kind, line.rest),
         Some(Command::Write(write)) => do_write(memory, write, bytes, line),
-        Some(Command::Ask(question)) => ask(memory, question, bytes, line),
+        Some(Command::Ask(question)) => ask(memory.queues.held(), question, bytes, line),
         Some(Command::Look(look)) => do_look(memory, look),
         Some(Command::Set(set)) => do_set(memory, set, line),
-        Some(Command::Change(change)) => do_change(memory.log, change, bytes, line),
+        Some(Command::Change(change)) => do_change(memory.writer.log, change, bytes, line),
         Some(Command::Show(show)) => do_show(memory, show),
         None => {
             text(b" unknown command ");

@@ -4,7 +4,7 @@
 // the target's whole blocks, of what lies after them and of the scratch. The target is full of hex ee before, the scratch of hex 5a.
 #![tactic(auto)]
 
-use multi_record_log::{CopyAnswer, ReplayAnswer};
+use multi_record_log::{HeldMemory, QueueMemory, Refusal, Replayed};
 use std::alloc::Global;
 use std::io::{self, Read};
 
@@ -37,28 +37,26 @@ fn crc(s: &[u8]) -> u32 {
 }
 
 impl Queues {
-    fn replay(&mut self, log: &[u8]) -> ReplayAnswer {
-        multi_record_log::replay(
-            log,
-            &mut [0u8; 131072],
-            &mut self.names,
-            &mut self.payloads,
-            &mut self.entries,
-            &mut self.largest,
-            &mut self.table,
-        )
+    fn replay(&mut self, log: &[u8]) -> Result<Replayed, Refusal> {
+        let mut memory = QueueMemory {
+            names: &mut self.names,
+            payloads: &mut self.payloads,
+            entries: &mut self.entries,
+            largest: &mut self.largest,
+            table: &mut self.table,
+        };
+        multi_record_log::replay(log, &mut [0u8; 131072], &mut memory)
     }
 
-    fn copy(&self, target: &mut [u8], scratch: &mut [u8]) -> CopyAnswer {
-        multi_record_log::copy(
-            target,
-            scratch,
-            &self.names,
-            &self.payloads,
-            &self.entries,
-            &self.largest,
-            &self.table,
-        )
+    fn copy(&self, target: &mut [u8], scratch: &mut [u8]) -> Result<usize, Refusal> {
+        let memory = HeldMemory {
+            names: &self.names,
+            payloads: &self.payloads,
+            entries: &self.entries,
+            largest: &self.largest,
+            table: &self.table,
+        };
+        multi_record_log::copy(target, scratch, memory)
     }
 
     // One number that stands for the whole memory.
@@ -118,17 +116,17 @@ fn next_case(alloc: Global, input: &mut impl Read) -> io::Result<(Case, Vec<u8>)
     Ok((case, next_log(alloc, input, log_len, stored)?))
 }
 
-fn tell_replay(rt: &impl Print, answer: ReplayAnswer) -> io::Result<()> {
+fn tell_replay(rt: &impl Print, answer: Result<Replayed, Refusal>) -> io::Result<()> {
     match answer {
-        ReplayAnswer::Replayed { resumed, .. } => print!(rt; "replayed to {resumed}"),
-        ReplayAnswer::Refused(n) => print!(rt; "replay refused {n}"),
+        Ok(Replayed { resumed, .. }) => print!(rt; "replayed to {resumed}"),
+        Err(refusal) => print!(rt; "replay refused {}", refusal.number()),
     }
 }
 
-fn tell_copy(rt: &impl Print, answer: CopyAnswer) -> io::Result<()> {
+fn tell_copy(rt: &impl Print, answer: Result<usize, Refusal>) -> io::Result<()> {
     match answer {
-        CopyAnswer::Copied(end) => print!(rt; ", copied to {end}"),
-        CopyAnswer::Refused(n) => print!(rt; ", refused {n}"),
+        Ok(end) => print!(rt; ", copied to {end}"),
+        Err(refusal) => print!(rt; ", refused {}", refusal.number()),
     }
 }
 

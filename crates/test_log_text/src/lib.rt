@@ -33,18 +33,15 @@ pub fn count_up(s: &mut [u8]) {
 }
 
 // A record of the first n bytes of data at a place; there is none where the data are shorter.
-fn write(log: &mut [u8], place: usize, data: &[u8], n: usize) -> RecordWrite {
-    match data.get(..n) {
-        Some(record) => recordlog::write_record(&[], log, place, record),
-        None => RecordWrite::NoRoom,
-    }
+fn write(log: &mut [u8], place: usize, data: &[u8], n: usize) -> Option<RecordWrite> {
+    recordlog::write_record(&[], log, place, data.get(..n)?)
 }
 
 // The same. Answers the place after it; where there is no room, 13 is printed and the place stays.
 pub fn put(log: &mut [u8], place: usize, data: &[u8], n: usize) -> usize {
     match write(log, place, data, n) {
-        RecordWrite::Written { next, .. } => next,
-        RecordWrite::NoRoom => {
+        Some(written) => written.next,
+        None => {
             text(b" 13");
             place
         }
@@ -54,17 +51,13 @@ pub fn put(log: &mut [u8], place: usize, data: &[u8], n: usize) -> usize {
 // The same, with the two counts printed: frame bytes + padding bytes.
 pub fn put_counted(log: &mut [u8], place: usize, data: &[u8], n: usize) {
     match write(log, place, data, n) {
-        RecordWrite::Written {
-            frame_bytes,
-            padding_bytes,
-            ..
-        } => {
+        Some(written) => {
             text(b" ");
-            number(frame_bytes);
+            number(written.frame_bytes);
             text(b"+");
-            number(padding_bytes);
+            number(written.padding_bytes);
         }
-        RecordWrite::NoRoom => text(b" 13"),
+        None => text(b" 13"),
     }
 }
 

@@ -3,7 +3,7 @@
 // each item, with its position, where its payload starts and how long it is, and how the items end.
 #![tactic(auto)]
 
-use record::{EncodedLen, MultiPlexedRecord, MultiRecord, NextItem, RecordType, Written};
+use record::{MultiPlexedRecord, MultiRecord, RecordType};
 
 const STDOUT: i32 = 1;
 
@@ -40,28 +40,20 @@ fn print_part(what: &[u8], position: u64, start: usize, len: usize) {
 fn print_items(s: &[u8], mut left: MultiRecord) {
     loop {
         match record::next_item(s, left) {
-            NextItem::Item {
-                position,
-                start,
-                len,
-                rest,
-            } => {
-                print_part(b" item", position, start, len);
-                left = rest;
+            Ok(Some(item)) => {
+                print_part(b" item", item.position, item.start, item.len);
+                left = item.rest;
             }
-            NextItem::End => {
-                say(b" end");
-                return;
-            }
-            NextItem::Bad => {
-                say(b" bad");
-                return;
-            }
+            Ok(None) => return say(b" end"),
+            Err(_) => return say(b" bad"),
         }
     }
 }
 
-fn print_record(s: &[u8], r: MultiPlexedRecord) {
+fn print_record(s: &[u8], r: Option<MultiPlexedRecord>) {
+    let Some(r) = r else {
+        return say(b"none");
+    };
     match r {
         MultiPlexedRecord::Truncate {
             position,
@@ -91,7 +83,6 @@ fn print_record(s: &[u8], r: MultiPlexedRecord) {
             position,
             body_start,
         } => print_part(b"mark", position, body_start, 8),
-        MultiPlexedRecord::None => say(b"none"),
     }
 }
 
@@ -287,13 +278,13 @@ fn steps() {
     run_bad_step(s, 0, 18446744073709551615);
 }
 
-fn print_written(w: Written) {
+fn print_written(w: Option<usize>) {
     match w {
-        Written::Until(place) => {
+        Some(place) => {
             say(b"until");
             print_number(place as u64);
         }
-        Written::Nothing => say(b"nothing"),
+        None => say(b"nothing"),
     }
 }
 
@@ -339,10 +330,7 @@ fn run_length(name: usize, items: usize, payload: usize, should: u64) {
     print_number(items as u64);
     print_number(payload as u64);
     say(b":");
-    match record::encoded_len(name, items, payload) {
-        EncodedLen::Bytes(n) => print_number(n as u64),
-        EncodedLen::TooLong => print_number(0),
-    }
+    print_number(record::encoded_len(name, items, payload).unwrap_or(0) as u64);
     say(b", should be");
     print_number(should);
     say(b"\n");

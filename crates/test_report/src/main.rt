@@ -4,7 +4,7 @@
 // is to be printed.
 #![tactic(auto)]
 
-use report::MeanAnswer;
+use report::MeanLength;
 use std::alloc::Global;
 use std::io::{self, Read};
 
@@ -58,13 +58,17 @@ fn print_numbers(rt: &impl Print, held: &[u8]) -> io::Result<()> {
 
 fn print_mean(rt: &impl Print, held: &[u8]) -> io::Result<()> {
     match report::mean(held) {
-        MeanAnswer::Mean {
-            whole,
-            remainder,
-            count,
-        } => println!(rt; "mean {whole} remainder {remainder} over {count}"),
-        MeanAnswer::Nothing => println!(rt; "mean none"),
-        MeanAnswer::Refused(number) => println!(rt; "mean refused {number}"),
+        Ok(
+            Some(
+                MeanLength {
+                    whole,
+                    remainder,
+                    count,
+                },
+            ),
+        ) => println!(rt; "mean {whole} remainder {remainder} over {count}"),
+        Ok(None) => println!(rt; "mean none"),
+        Err(refusal) => println!(rt; "mean refused {}", refusal.number()),
     }
 }
 

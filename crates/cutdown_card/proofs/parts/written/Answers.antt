@@ -1,14 +1,16 @@
 -- `cutdown_card::parts::written` meets its contract.
 -- Assumes nothing.
 use mathlib.Core.Path.{sym, ap}
-use Rattle.copy_write.specs.declared.CopyAnswer.{CopyAnswer}
+use Prim.Native.Nat.{ℕ}
+use Rattle.std.specs.Prelude.{Result}
+use Rattle.calls.specs.declared.Refusal.{Refusal}
 use Rattle.cutdown_card.specs.Kept.{copied_as}
 use Rattle.cutdown_card.proofs.parts.written.Goals as goal
 
-pub returns-in-Copied : goal.returns-in-Copied
+pub returns-in-Ok : goal.returns-in-Ok
 unfolding copied_as
-returns-in-Copied c = sym (ap (λ (a : CopyAnswer). copied_as a c.args.len) c.in-Copied.is)
+returns-in-Ok c = sym (ap (λ (a : Result ℕ Refusal). copied_as a c.args.len) c.in-Ok.is)
 
-pub returns-in-Refused : goal.returns-in-Refused
+pub returns-in-Err : goal.returns-in-Err
 unfolding copied_as
-returns-in-Refused c = sym (ap (λ (a : CopyAnswer). copied_as a c.args.len) c.in-Refused.is)
+returns-in-Err c = sym (ap (λ (a : Result ℕ Refusal). copied_as a c.args.len) c.in-Err.is)
