@@ -1,6 +1,6 @@
 // The arguments and the answers of the calls as numbers.
 ghost use Rattle.std.specs.Prelude.{◌≡◌};
-ghost use Rattle.calls.specs.Refused.{numbered};
+ghost use Rattle.calls.specs.Refused.{refused, numbered};
 ghost use Rattle.call_decide.specs.Request.{position_of};
 ghost use Rattle.contracts.specs.Numbers.{called_numbers};
 ghost use Rattle.copy_contracts.specs.Promises.{copy_numbers};
@@ -43,6 +43,17 @@ impl From<Result<Called, Refusal>> for CallTold {
     }
 }
 
+// The number of a refusal, 0 where there is none.
+fn number<T: Copy>(answer: Result<T, Refusal>) -> u64
+    ensures { result ≡ refused answer }
+{
+    match answer {
+        Ok(_) => 0,
+        Err(refusal) => refusal.number(),
+    }
+}
+
+// Kept: the C interface gives the values of an answer one by one.
 #[tactic(auto, unfolding(crate::specs::Told::tell_replay))]
 pub fn tell_replay(
     answer: Result<Replayed, Refusal>,
@@ -52,34 +63,23 @@ pub fn tell_replay(
 ) -> u64
     ensures { replay_told result lost.new lost_bytes.new resumed.new ≡ tell_replay (numbered answer) }
 {
-    match answer {
-        Ok(replayed) => {
-            *lost = replayed.lost;
-            *lost_bytes = replayed.lost_bytes as u64;
-            *resumed = replayed.resumed as u64;
-            0
-        }
-        Err(refusal) => {
-            *lost = 0;
-            *lost_bytes = 0;
-            *resumed = 0;
-            refusal.number()
-        }
-    }
+    let none = Replayed {
+        lost: 0,
+        lost_bytes: 0,
+        resumed: 0,
+    };
+    let replayed = answer.unwrap_or(none);
+    *lost = replayed.lost;
+    *lost_bytes = replayed.lost_bytes as u64;
+    *resumed = replayed.resumed as u64;
+    number(answer)
 }
 
+// Kept: the C interface gives the values of an answer one by one.
 #[tactic(auto, unfolding(copy_contracts::specs::Promises::copy_numbers))]
 pub fn tell_copy(answer: Result<usize, Refusal>, end: &mut u64) -> u64
     ensures { copy_told result end.new ≡ copy_numbers answer }
 {
-    match answer {
-        Ok(last) => {
-            *end = last as u64;
-            0
-        }
-        Err(refusal) => {
-            *end = 0;
-            refusal.number()
-        }
-    }
+    *end = answer.unwrap_or(0) as u64;
+    number(answer)
 }

@@ -36,16 +36,8 @@ pub fn list_replayed(
             let mut text = Text { out, at: 0 };
             put_shifts(input, scratch, &mut text);
             let held = memory.held();
-            list(
-                held.names,
-                held.payloads,
-                held.entries,
-                held.table,
-                replayed.lost_bytes as u64,
-                replayed.resumed,
-                input.len(),
-                &mut text,
-            )
+            let lost = replayed.lost_bytes as u64;
+            list(held, lost, replayed.resumed, input.len(), &mut text)
         }
         Err(refusal) => refused(out, refusal.number()),
     }

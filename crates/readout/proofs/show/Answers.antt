@@ -6,7 +6,7 @@ use Rattle.readout_text.proofs.Short.{in_the_buffer}
 use Rattle.readout.proofs.show.Goals as goal
 
 pub slice_bounds-text-end : goal.slice_bounds-text-end
-slice_bounds-text-end g c = in_the_buffer _ _ _ _ _ _ c.in-Bytes.is c.list_card.ensures
+slice_bounds-text-end g c = in_the_buffer _ _ _ _ _ _ c.in-Some.is c.list_card.ensures
 
 pub slice_bounds-write_all-end : goal.slice_bounds-write_all-end
-slice_bounds-write_all-end g c = sym (length-take-le _ _ (in_the_buffer _ _ _ _ _ _ c.in-Bytes.is c.list_card.ensures))
+slice_bounds-write_all-end g c = sym (length-take-le _ _ (in_the_buffer _ _ _ _ _ _ c.in-Some.is c.list_card.ensures))
