@@ -27,7 +27,7 @@ fn say_answer(payloads: &[u8], answer: Result<QuestionAnswer, Refusal>) {
 // The first record of a queue, or that after a position: its position and length.
 fn first(memory: HeldMemory<'_, u8, u8>, name: &[u8], line: Line<'_>) {
     let lower = line
-        .number(b"after")
+        .number_of_word(b"after")
         .map_or(Bound::Unbounded, Bound::Excluded);
     match range(memory, name, lower, Bound::Unbounded) {
         Ok(QuestionAnswer::Record(Some(found))) => {

@@ -37,7 +37,7 @@ fn append(memory: &mut Memory<'_>, name: &[u8], line: Line<'_>) -> Option<Result
         &mut memory.writer,
         &mut memory.queues,
         name,
-        line.number(b"at"),
+        line.number_of_word(b"at"),
         &run[..bytes],
         payloads,
     ))

@@ -2,12 +2,12 @@
 // the Rust answered. `host/run sample` writes both files (host/src/bin/sample.rs).
 #![tactic(auto)]
 
-// Kept: no plainer: `test_calls` and `test_rust_answers` are one program over two inputs, and a crate has one stdin and one stdout.
-use std::io::{self, Read};
+use std::io::Read;
 
-fn main(rt: HostRuntime) -> io::Result<()> {
+// The first 262,144 bytes of the input, as far as they can be read.
+// Kept: no plainer: `test_calls` and `test_rust_answers` are one program over two inputs, and a crate has one stdin and one stdout.
+fn main(rt: HostRuntime) {
     let mut list = Vec::new(rt.alloc());
-    rt.stdin().read_to_end(&mut list)?;
+    let _ = rt.stdin().take(262144).read_to_end(&mut list);
     test_commands::run(list.as_slice());
-    Ok(())
 }
