@@ -35,12 +35,12 @@ pub fn by_halves(t: &[u32], crc: u32, data: &[u8]) -> u32
     ensures { result ≡ run crc (bits «data».now) }
 {
     let mut c = crc;
-    let mut i = 0;
-    while 8 <= data.len() - i {
-        c = eight(t, c, &data[i..i + 8]);
-        i += 8;
+    let mut rest = data;
+    while let Some((s, later)) = rest.split_at_checked(8) {
+        c = eight(t, c, s);
+        rest = later;
     }
-    by_ones(t, c, &data[i..])
+    by_ones(t, c, rest)
 }
 
 // What the byte b adds, with what the register crc has at its place: through k more bytes, by the two halves' entries of part k.
@@ -71,7 +71,8 @@ fn bytes_share(t: &[u32], crc: u32, s: &[u8], k: usize) -> u32
 }
 
 // The register after eight bytes. Only the first four of them meet what is in it: the others need not wait for it, and go first.
-fn eight(t: &[u32], crc: u32, s: &[u8]) -> u32
+#[inline(always)]
+pub fn eight(t: &[u32], crc: u32, s: &[u8]) -> u32
     requires { (length s.now ≡ 8) × (t.now ≡ half_table) }
     ensures { result ≡ run crc (bits s.now) }
 {

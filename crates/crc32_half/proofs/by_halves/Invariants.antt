@@ -1,13 +1,12 @@
 -- `crc32_half::by_halves` meets its contract. The loop's invariant: the bytes that are left take the register to where all of them take the first.
 -- Assumes nothing.
 use mathlib.Core.Path.{◌≡◌}
-use Prim.Native.Nat.{◌-◌, ◌≤◌}
-use lib.ListN.{length, drop}
+use lib.ListN.{length}
 use Rattle.crc32.specs.Crc.{run, bits}
 use Rattle.crc32_half.proofs.by_halves.Given as goal
 
-abbrev pub invariant-loop-i : goal.invariant-loop-i
-invariant-loop-i l = (l.i ≤ length l.data) × (run l.c (bits (drop l.i l.data)) ≡ run l.crc (bits l.data))
+abbrev pub invariant-loop-s : goal.invariant-loop-s
+invariant-loop-s l = run l.c (bits l.rest) ≡ run l.crc (bits l.data)
 
-abbrev pub decreases-loop-i : goal.decreases-loop-i
-decreases-loop-i l = length l.data - l.i
+abbrev pub decreases-loop-s : goal.decreases-loop-s
+decreases-loop-s l = length l.rest
