@@ -1,4 +1,4 @@
--- `crc32_half::eight` meets its contract: the first four bytes through the others, and those by themselves.
+-- `crc32_half::several` meets its contract: the first four bytes through the others, and those by themselves.
 -- Assumes nothing.
 use mathlib.Core.Path.{ap, ap₂, ◌∙◌}
 use mathlib.Core.List.{List}
@@ -9,10 +9,10 @@ use lib.ListN.{length}
 use lib.Seq.{take_all}
 use Rattle.crc32.specs.Crc.{run, bits}
 use Rattle.crc32.proofs.Wide.{parts_share}
-use Rattle.crc32_half.proofs.eight.Goals as goal
+use Rattle.crc32_half.proofs.several.Goals as goal
 
 pub returns : goal.returns
-returns c =
+returns g c =
     let xs : List ℕ = c.args.s.now in
     ap₂ bit_xor c.bytes_share.ensures c.bytes_share-last.ensures
     ∙ parts_share c.args.crc 4 (length xs - 4) xs (omega arith)
