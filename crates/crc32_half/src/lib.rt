@@ -84,12 +84,16 @@ pub fn by_table<T: ByteTable>(t: T, crc: u32, data: &[u8]) -> u32
     ensures { result ≡ run crc (bits «data».now) }
 {
     let width = t.width();
+    if width == 8 {
+        return by_turns(t, 8, crc, data);
+    }
     let (front, back) = data.split_at(data.len() / width * width);
     let c = by_turns(t, width, crc, front);
     by_turns(t, 8, c, back)
 }
 
 // All bytes of a slice, `width` a turn by as many parts, and the last ones one by one.
+#[inline(always)]
 fn by_turns<T: ByteTable>(t: T, width: usize, crc: u32, data: &[u8]) -> u32
     requires { (8 ≤ width) × (width ≤ T.width) }
     ensures { result ≡ run crc (bits «data».now) }
