@@ -146,6 +146,7 @@ pub fn count_log(crc: &[u32], log: &[u8], numbers: &[u64]) -> [u64; 12]
     let mut table = table_of(numbers);
     let mut others = others_of(numbers);
     let mut reader = Reader::new();
+    // Kept: no plainer, `while let` would read a frame at two places, before the loop and at its end.
     loop {
         let sight = see(crc, log, reader);
         let Some(seen) = sight.seen else {

@@ -7,4 +7,4 @@ use Rattle.crc32.specs.Crc.{run, bits}
 use Rattle.crc32_half.proofs.by_ones.Given as goal
 
 abbrev pub invariant-loop-b : goal.invariant-loop-b
-invariant-loop-b l = (l.b-index ≤ length l.data) × (run l.c (bits (drop l.b-index l.data)) ≡ run l.crc (bits l.data))
+invariant-loop-b g l = (l.b-index ≤ length l.data) × (run l.c (bits (drop l.b-index l.data)) ≡ run l.crc (bits l.data))
