@@ -1,6 +1,6 @@
 -- `drive_text::day::drive_zeroed` meets its contract.
 -- Assumes nothing.
-use Rattle.std.proofs.Common.{◌≡◌, ℕ, List, refl, sym, subst, rules}
+use Rattle.std.proofs.Common.{◌≡◌, ℕ, List, sym, subst, rules}
 use lib.ListN.{length-replicate}
 use Rattle.drive_text.specs.Internal.{Drove}
 use Rattle.drive_text.proofs.Opening.{drove}
