@@ -29,6 +29,8 @@ fn cut<O: Write, E: Write>(output: &mut O, errors: &mut E, input: &[u8]) {
     }
 }
 
+// Kept: no plainer: this main and that of readout have one body, but for the name that is told and what is done with the card, and a shared function would
+// take both, the second as a closure over two streams.
 fn main(rt: HostRuntime) {
     let mut errors = rt.stderr();
     let mut input = [0u8; 65537];

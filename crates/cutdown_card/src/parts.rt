@@ -11,10 +11,8 @@ use multi_record_log::{QueueMemory, Refusal, copy, replay};
 pub fn written(copied: Result<usize, Refusal>, len: usize) -> Result<usize, NotCut>
     ensures { result ≡ copied_as copied len }
 {
-    match copied {
-        Ok(_) => Ok(len),
-        Err(refused) => Err(NotCut::Refused(refused)),
-    }
+    copied?;
+    Ok(len)
 }
 
 // The queues that the card's records give, copied into the target.
@@ -33,8 +31,6 @@ pub fn cut_into(
         result
         target.new }
 {
-    match replay(card, scratch, memory) {
-        Ok(_) => written(copy(target, scratch, memory.held()), target.len()),
-        Err(refusal) => Err(NotCut::Refused(refusal)),
-    }
+    replay(card, scratch, memory)?;
+    written(copy(target, scratch, memory.held()), target.len())
 }

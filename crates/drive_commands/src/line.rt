@@ -44,6 +44,7 @@ fn put_ok(text: &mut Text, command: Command, called: Called)
     text.put_number_line(b" ", called.padding_bytes as u64);
 }
 
+// Kept: no plainer: a line of a command file may tell 16 too, which no call answers, so an enum would take one case more and be turned into its number here.
 pub fn put_refused(text: &mut Text, number: u64)
     ensures same { SameOut text.old text.new }
     ensures puts { Puts text.old (refusal number) text.new }

@@ -15,6 +15,7 @@ const PAYLOAD_LEN: usize = 16;
 
 impl Command {
     // The command of a byte, where it is known.
+    // Kept: no plainer: `command_at` passes the Option on by `?`; a TryFrom would name an error that nobody reads, and an `ok()` would drop it there.
     #[tactic(auto, unfolding(crate::specs::Commands::width))]
     pub fn from_byte(byte: u8) -> Option<Command>
         ensures known { IfSome result (λ c. byte_of c ≡ byte) }
@@ -60,11 +61,14 @@ pub fn name_len(operands: &[u8]) -> usize
     requires { 8 ≤ length operands.now }
     ensures { (result ≤ 8) × (take result operands.now ≡ name_in operands.now) }
 {
-    let mut n = NAME_LEN;
-    while 0 < n && operands[n - 1] == 0 {
-        n -= 1;
+    let mut name = &operands[..NAME_LEN];
+    while let Some((last, rest)) = name.split_last() {
+        if *last != 0 {
+            return name.len();
+        }
+        name = rest;
     }
-    n
+    0
 }
 
 // The position.

@@ -6,7 +6,7 @@ use Rattle.readout_text.proofs.Short.{in_the_buffer}
 use Rattle.cutdown.proofs.tell.Goals as goal
 
 pub slice_bounds-line-end : goal.slice_bounds-line-end
-slice_bounds-line-end g c = in_the_buffer _ _ _ _ _ _ c.in-Bytes.is c.refused.ensures
+slice_bounds-line-end g c = in_the_buffer _ _ _ _ _ _ c.in-Some.is c.refused.ensures
 
 pub slice_bounds-write_all-end : goal.slice_bounds-write_all-end
-slice_bounds-write_all-end g c = sym (length-take-le _ _ (in_the_buffer _ _ _ _ _ _ c.in-Bytes.is c.refused.ensures))
+slice_bounds-write_all-end g c = sym (length-take-le _ _ (in_the_buffer _ _ _ _ _ _ c.in-Some.is c.refused.ensures))
