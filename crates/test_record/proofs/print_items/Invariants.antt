@@ -5,7 +5,7 @@ use lib.ListN.{length}
 use Rattle.test_record.proofs.print_items.Given as goal
 
 abbrev pub invariant-loop-item : goal.invariant-loop-item
-invariant-loop-item l = Unit {0}
+invariant-loop-item g l = Unit {0}
 
 abbrev pub decreases-loop-item : goal.decreases-loop-item
-decreases-loop-item l = length l.s + 1 - l.left.start
+decreases-loop-item g l = length l.s + 1 - l.left.start
