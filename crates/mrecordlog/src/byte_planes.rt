@@ -4,6 +4,7 @@ ghost use Rattle.planes.specs.Step.{step_answer, to_planes_left, from_planes_lef
 
 use planes::PlanesError;
 
+// Kept: the C interface gives refusals as numbers.
 // The number of a step's answer: 0 where nothing is refused.
 fn number(answer: Result<(), PlanesError>) -> u64
     ensures { result ≡ planes_number answer }

@@ -1,4 +1,5 @@
 // The questions.
+// Kept: the C interface lends the memory in parts, and is told the values of an answer one by one.
 ghost use Rattle.std.specs.Prelude.{◌≡◌};
 ghost use Rattle.calls.specs.Refused.{numbered};
 ghost use Rattle.contracts.specs.Numbers.{positions_numbers, largest_numbers};

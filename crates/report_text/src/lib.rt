@@ -102,6 +102,7 @@ pub fn list_report(report: &[u8], out: &mut [u8]) -> Option<usize>
 }
 
 // The line for a card that is refused, from the buffer's start on.
+// Kept: no plainer: the line has a number in it, and a caller may give any; the type of a refusal would take three.
 pub fn list_refused(number: u64, name: &[u8], out: &mut [u8]) -> Option<usize>
     ensures { (result ≡ listed (length out.old) (length (refused_line number name.now)))
         × (out.new ≡ written out.old 0 (refused_line number name.now)) }
