@@ -2,6 +2,7 @@
 use crate::command::Write;
 use multi_record_log::{Called, Refusal, Replayed};
 
+// Kept: no plainer: `run` can't fail, and with `print!` each function below it takes the runtime and answers a result.
 pub fn text(s: &[u8]) {
     io::write_all(1, s);
 }

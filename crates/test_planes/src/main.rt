@@ -9,6 +9,7 @@ use std::array;
 
 const STDOUT: i32 = 1;
 
+// Kept: no plainer: with `print!` each function here takes the runtime and answers a result, and bytes in hex have to be a type with its own `Display`.
 fn print_bytes(s: &[u8]) {
     for byte in s {
         io::print_hex(STDOUT, u64::from(*byte), 2);
