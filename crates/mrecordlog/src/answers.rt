@@ -10,6 +10,7 @@ use crate::CallTold;
 use multi_record_log::{Called, Refusal, Replayed};
 
 // The position that an append names.
+// Kept: the C interface gives a flag and a position.
 #[tactic(auto, unfolding(crate::specs::Told::position_named))]
 pub fn at_position(named: u64, position: u64) -> Option<u64>
     ensures { position_of result ≡ position_named named position }
@@ -44,6 +45,7 @@ impl From<Result<Called, Refusal>> for CallTold {
 }
 
 // The number of a refusal, 0 where there is none.
+// Kept: the C interface gives refusals as numbers.
 fn number<T: Copy>(answer: Result<T, Refusal>) -> u64
     ensures { result ≡ refused answer }
 {
