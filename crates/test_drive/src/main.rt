@@ -8,14 +8,17 @@ use listing::Text;
 // A byte more than an input may have at most; the program ends at a stored input that is longer.
 const LONGEST: usize = 65537;
 
-// How often a part stands there, and its length. A part that stands there 0 times has no bytes.
+// How often a part stands there, and its length.
 fn next_head() -> Option<(u16, usize)> {
     let mut head = [0u8; 4];
     if io::read_full(0, &mut head) < head.len() {
         return None;
     }
     let [a, b, c, d] = head;
-    Some((u16::from_le_bytes([a, b]), usize::from(u16::from_le_bytes([c, d]))))
+    Some((
+        u16::from_le_bytes([a, b]),
+        usize::from(u16::from_le_bytes([c, d])),
+    ))
 }
 
 // The bytes of a part, as often as it stands there; zeros for those that standard input has no more.
