@@ -72,6 +72,7 @@ pub fn half_table() -> [u32; 256]
 }
 
 // The register after the eight bits of one byte, lowest first.
+// Kept: no plainer, here and at `by_ones`, as one with `next` and `by_bytes` of crc32: the byte table has one part, and the law asks for eight of a ByteTable.
 pub fn next_by<T: ByteTable>(t: T, crc: u32, b: u8) -> u32
     ensures { result ≡ run crc (bits_of 8 b) }
 {

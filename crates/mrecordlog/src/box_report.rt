@@ -1,5 +1,5 @@
 // A report over a box of cards.
-// Kept: the C interface is told the values of an answer one by one.
+// Kept: the C interface is told the values of an answer one by one, and refusals as numbers.
 ghost use Rattle.std.specs.Prelude.{◌≡◌};
 ghost use Rattle.report.specs.Feed.{feed_answer, feed_left, feed_number, mean_answer};
 ghost use Rattle.mrecordlog.specs.Reported.{mean_told, tell_mean};
