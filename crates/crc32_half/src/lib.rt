@@ -79,8 +79,8 @@ pub fn next_by<T: ByteTable>(t: T, crc: u32, b: u8) -> u32
     t.byte_share(0, crc, b) ^ (crc >> 8)
 }
 
-// The register after all bytes of a slice: `width` a turn, then eight, and the last ones one by one. The widths are written at the calls, so that each has a loop
-// of its own.
+// The register after all bytes of a slice: `width` a turn, then eight, and the last ones one by one. The widths are written at the calls, so that each has a
+// loop of its own.
 pub fn by_table<T: ByteTable>(t: T, crc: u32, data: &[u8]) -> u32
     ensures { result ≡ run crc (bits «data».now) }
 {
