@@ -20,10 +20,6 @@ struct Head {
     stored: usize,
 }
 
-fn length(low: u8, middle: u8, high: u8) -> usize {
-    u32::from_le_bytes([low, middle, high, 0]) as usize
-}
-
 // The next item's head, where there is one.
 fn next_head() -> Option<Head> {
     let mut head = [0u8; 7];
@@ -33,8 +29,8 @@ fn next_head() -> Option<Head> {
     let [kind, a, b, c, d, e, f] = head;
     Some(Head {
         kind,
-        len: length(a, b, c),
-        stored: length(d, e, f),
+        len: u32::from_le_bytes([a, b, c, 0]) as usize,
+        stored: u32::from_le_bytes([d, e, f, 0]) as usize,
     })
 }
 
