@@ -11,10 +11,6 @@ fn list(card: &[u8]) {
     io::write_all(1, &out[..n]);
 }
 
-fn length(low: u8, middle: u8, high: u8) -> usize {
-    u32::from_le_bytes([low, middle, high, 0]) as usize
-}
-
 // The next card, where there is one, in a buffer of zeros.
 fn next_card(room: &mut [u8]) -> Option<&[u8]> {
     let mut head = [0u8; 6];
@@ -22,8 +18,10 @@ fn next_card(room: &mut [u8]) -> Option<&[u8]> {
         return None;
     }
     let [a, b, c, d, e, f] = head;
-    let card = room.get_mut(..length(a, b, c))?;
-    io::read_full(0, card.get_mut(..length(d, e, f))?);
+    let len = u32::from_le_bytes([a, b, c, 0]) as usize;
+    let stored = u32::from_le_bytes([d, e, f, 0]) as usize;
+    let card = room.get_mut(..len)?;
+    io::read_full(0, card.get_mut(..stored)?);
     Some(card)
 }
 

@@ -12,16 +12,29 @@ const MAX_REPORT_LEN: usize = 256;
 
 const MAX_LOG_LEN: usize = 131072;
 
+#[derive(Clone, Copy)]
+enum Kind {
+    Report,
+    Log,
+    Mean,
+}
+
+impl From<u8> for Kind {
+    fn from(kind: u8) -> Kind {
+        match kind {
+            0 => Kind::Report,
+            1 => Kind::Log,
+            _ => Kind::Mean,
+        }
+    }
+}
+
 // What stands before the stored bytes of an item.
 #[derive(Clone, Copy)]
 struct Head {
-    kind: u8,
+    kind: Kind,
     len: usize,
     stored: usize,
-}
-
-fn length(low: u8, middle: u8, high: u8) -> usize {
-    u32::from_le_bytes([low, middle, high, 0]) as usize
 }
 
 // The next item's head, where there is one.
@@ -32,9 +45,9 @@ fn next_head() -> Option<Head> {
     }
     let [kind, a, b, c, d, e, f] = head;
     Some(Head {
-        kind,
-        len: length(a, b, c),
-        stored: length(d, e, f),
+        kind: Kind::from(kind),
+        len: u32::from_le_bytes([a, b, c, 0]) as usize,
+        stored: u32::from_le_bytes([d, e, f, 0]) as usize,
     })
 }
 
@@ -92,17 +105,17 @@ fn main(rt: HostRuntime) -> std::io::Result<()> {
             break;
         };
         match head.kind {
-            0 if MAX_REPORT_LEN < head.len => break,
-            0 => {
+            Kind::Report if MAX_REPORT_LEN < head.len => break,
+            Kind::Report => {
                 held = next_run(rt.alloc(), head)?;
                 print_report(&rt, held.as_slice())?;
             }
-            1 if MAX_LOG_LEN < head.len => (),
-            1 => {
+            Kind::Log if MAX_LOG_LEN < head.len => (),
+            Kind::Log => {
                 let log = next_run(rt.alloc(), head)?;
                 feed(&rt, held.as_mut_slice(), log.as_slice())?;
             }
-            _ => print_mean(&rt, held.as_slice())?,
+            Kind::Mean => print_mean(&rt, held.as_slice())?,
         }
     }
     Ok(())
