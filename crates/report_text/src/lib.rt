@@ -27,8 +27,7 @@ fn put_row(text: &mut Text, word: &[u8], right: u64, wrong: u64)
     text.put_number_line(b" wrong ", wrong);
 }
 
-fn put_table(text: &mut Text, numbers: &[u64])
-    requires { length numbers.now ≡ 12 }
+fn put_table(text: &mut Text, numbers: &[u64; 12])
     ensures same { SameOut text.old text.new }
     ensures puts { Puts text.old (table_lines numbers.now) text.new }
 {
@@ -38,8 +37,7 @@ fn put_table(text: &mut Text, numbers: &[u64])
     put_row(text, b"last right ", numbers[7], numbers[8]);
 }
 
-fn put_others(text: &mut Text, numbers: &[u64])
-    requires { length numbers.now ≡ 12 }
+fn put_others(text: &mut Text, numbers: &[u64; 12])
     ensures same { SameOut text.old text.new }
     ensures puts { Puts text.old (other_lines numbers.now) text.new }
 {
@@ -48,8 +46,7 @@ fn put_others(text: &mut Text, numbers: &[u64])
     text.put_number_line(b"data ", numbers[11]);
 }
 
-fn put_counts(text: &mut Text, numbers: &[u64])
-    requires { length numbers.now ≡ 12 }
+fn put_counts(text: &mut Text, numbers: &[u64; 12])
     ensures same { SameOut text.old text.new }
     ensures puts { Puts text.old (count_lines numbers.now) text.new }
 {
