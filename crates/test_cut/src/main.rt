@@ -51,7 +51,7 @@ impl Case {
 
 // All reads. Answers where a writer resumes.
 fn reopen(log: &[u8], scratch: &mut [u8], data: &[u8]) -> usize {
-    resume(read_into(log, scratch, data, true).reader)
+    resume(read_into(log, scratch, Some(data)).reader)
 }
 
 // First of 32,654 bytes at 107, Middle of 32,761, Last of 4,585 at 65,536; its end is 70,128.

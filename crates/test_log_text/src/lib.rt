@@ -82,8 +82,8 @@ fn show(answer: RecordAnswer, scratch: &[u8], data: &[u8]) {
     }
 }
 
-// All answers of the fresh reader, printed where `shown` says so.
-pub fn read_into(log: &[u8], scratch: &mut [u8], data: &[u8], shown: bool) -> AllRead {
+// All answers of the fresh reader, printed where there are the data that were written.
+pub fn read_into(log: &[u8], scratch: &mut [u8], written: Option<&[u8]>) -> AllRead {
     let mut reader = Reader::new();
     if log.len() < Reader::BLOCK_NUM_BYTES {
         return AllRead { count: 0, reader };
@@ -92,7 +92,7 @@ pub fn read_into(log: &[u8], scratch: &mut [u8], data: &[u8], shown: bool) -> Al
         let read = recordlog::next_record(&[], log, scratch, reader);
         reader = read.reader;
         let answer = read.answer;
-        if shown {
+        if let Some(data) = written {
             show(answer, scratch, data);
         }
         if matches!(answer, RecordAnswer::EndOfLog | RecordAnswer::TooLong) {
