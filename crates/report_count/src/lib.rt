@@ -93,6 +93,7 @@ fn count_others(others: Others, seen: Seen) -> Others
 }
 
 // The table that the numbers hold.
+// Kept: no plainer: count_log takes any slice of twelve numbers, and would copy them into an array first, for two clauses fewer.
 #[tactic(auto, unfolding(crate::specs::Table::table_of))]
 fn table_of(numbers: &[u64]) -> [[u64; 2]; 4]
     requires { length numbers.now ≡ 12 }
@@ -106,6 +107,8 @@ fn table_of(numbers: &[u64]) -> [[u64; 2]; 4]
     ]
 }
 
+// The other counts that they hold.
+// Kept: no plainer: a slice, as in table_of.
 #[tactic(auto, unfolding(crate::specs::Table::others_of))]
 fn others_of(numbers: &[u64]) -> Others
     requires { length numbers.now ≡ 12 }

@@ -1,36 +1,36 @@
 -- What is said at a header, and what a frame is seen as.
 -- Assumes nothing.
-use mathlib.Core.Path.{◌≡◌, sym, ap, ap₂, ◌∙◌}
-use mathlib.Core.Bool.{Bool, true, false, ◌||◌}
+use mathlib.Core.Path.{◌≡◌, sym, ap, ◌∙◌}
+use mathlib.Core.Bool.{Bool, true, false}
 use mathlib.Core.List.{List}
-use Prim.Native.Nat.{ℕ, suc, ◌+◌, ◌*◌, ◌-◌, ◌≤◌, ◌<◌}
+use Prim.Native.Nat.{ℕ, ◌+◌, ◌*◌, ◌≤◌}
 use native.Mathlib.Omega.{arith}
 use lib.ListN.{length, get_or, drop, get_or-eq_default}
 use lib.Seq.{get_or-drop}
-use borrow.Author.Tests.{lt-leb}
 use Rattle.frame.specs.declared.FrameType.{FrameType}
 use Rattle.frame.specs.declared.Reader.{Reader}
-use Rattle.std.specs.Prelude.{Option}
-use Rattle.frame.specs.declared.Corruption.{Corruption}
-use Rattle.frame.specs.Reader.{FrameAnswer}
-use Rattle.frame.specs.Reader.{corrupt}
+use Rattle.std.specs.Prelude.{Option, None}
 use Rattle.frame.specs.declared.FrameRead.{FrameRead}
-use Rattle.frame.specs.Frame.{type_of, header_of}
+use Rattle.frame.specs.Frame.{type_of, type_when, header_of}
 use Rattle.frame.specs.Reader.{must_move, read_frame}
-use Rattle.frame.proofs.Step.{must_spoilt, must_full}
 use Rattle.report_frames.specs.declared.Seen.{Seen}
 use Rattle.report_frames.specs.Seen.{header_place_when, header_place, type_said, seen_as, seen}
 
+pub place_low : (r : Reader) → r.cursor ≤ 32768 → header_place r ≤ r.block * 32768 + 32768
+unfolding header_place header_place_when
+place_low r h = go (must_move r) where
+  go : (b : Bool) → header_place_when b r ≤ r.block * 32768 + 32768
+  go true = omega arith
+  go false = omega (arith, h)
+
 -- the type byte inside the log, and past its end
-pub kind_there : (log : List ℕ) (at : ℕ) → get_or log (at + 6) 0 ≡ (header_of (drop at log)).kind
-kind_there log at = sym (get_or-drop at log 6 0)
-
-pub kind_past : (log : List ℕ) (at : ℕ) → 7 ≤ length log → length log - 7 < at → 0 ≡ (header_of (drop at log)).kind
-kind_past log at h l = sym (get_or-eq_default log 0 {n = at + 6} (omega arith)) ∙ kind_there log at
-
-pub said_there : (log : List ℕ) (r : Reader) (p b : ℕ) (k : Option FrameType) → p ≡ header_place r → b ≡ (header_of (drop p log)).kind → k ≡ type_of b → k ≡ type_said log r
+pub said_there : (log : List ℕ) (r : Reader) (p b : ℕ) (k : Option FrameType) → p ≡ header_place r → b ≡ get_or log (p + 6) 0 → k ≡ type_of b → k ≡ type_said log r
 unfolding type_said
-said_there log r p b k ep eb ek = ek ∙ ap type_of (eb ∙ ap (λ (n : ℕ). (header_of (drop n log)).kind) ep)
+said_there log r p b k ep eb ek = ek ∙ ap type_of (eb ∙ sym (get_or-drop p log 6 0) ∙ ap (λ (n : ℕ). (header_of (drop n log)).kind) ep)
+
+pub said_past : (log : List ℕ) (r : Reader) (p : ℕ) (k : Option FrameType) → p ≡ header_place r → length log ≤ p + 6 → k ≡ None → k ≡ type_said log r
+unfolding type_of type_when
+said_past log r p k ep l ek = said_there log r p 0 k ep (sym (get_or-eq_default log 0 {n = p + 6} (omega (arith, l)))) ek
 
 pub seen_is : (log : List ℕ) (r : Reader) (x : FrameRead) (s : Option Seen) → x ≡ read_frame log r → s ≡ seen_as (type_said log r) x.answer
     → (s ≡ seen log r) × (x.reader ≡ (read_frame log r).reader)
