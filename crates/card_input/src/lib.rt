@@ -80,6 +80,16 @@ pub fn fail<W: Write>(to: &mut W, what: &[u8], error: Error) {
     let _ = writeln!(to, ": {error}");
 }
 
+// Something failed, which was said: nothing more is printed.
+#[derive(Clone, Copy)]
+pub struct Stopped;
+
+// The same as `fail`, for a caller that answers it.
+pub fn stop<W: Write>(to: &mut W, what: &[u8], error: Error) -> Stopped {
+    fail(to, what, error);
+    Stopped
+}
+
 // A file's name, as the system's calls take it here: text.
 pub fn file_name(name: &[u8]) -> Result<&str, Error>
     ensures text { IfOk result (λ text. text.now ≡ name.now) }

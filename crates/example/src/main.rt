@@ -19,6 +19,7 @@ struct Log {
 }
 
 // The queue memory.
+// Kept: no plainer: the example and two tests have such a struct, of other sizes; one would take five const parameters, and the example stands alone.
 #[derive(Drop)]
 struct Queues {
     names: [u8; 64],

@@ -16,6 +16,7 @@ const LONGEST_TARGET: usize = 196607;
 const LONGEST_SCRATCH: usize = 131072;
 
 // The memory of the queues.
+// Kept: no plainer: the example and two tests have such a struct, of other sizes; one would take five const parameters, and the example stands alone.
 #[derive(Drop)]
 struct Queues {
     names: [u8; 98304],

@@ -49,6 +49,7 @@ impl Case {
     }
 }
 
+// Kept: tried, and the proof didn't close: with log, scratch and data in one struct the check has no rule for this call, which reads one and fills another.
 // All reads. Answers where a writer resumes.
 fn reopen(log: &[u8], scratch: &mut [u8], data: &[u8]) -> usize {
     resume(read_into(log, scratch, Some(data)).reader)
