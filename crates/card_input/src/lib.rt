@@ -34,7 +34,7 @@ fn read_on<R: Read>(file: &mut R, card: &mut [u8], from: usize) -> Result<Option
     ensures within { IfOk result (λ bytes. IfSome bytes (λ n. n ≤ length card.new)) }
     ensures kept { IfOk result (λ bytes. IfSome bytes (λ n. from ≤ n)) }
     ensures front { take from card.new ≡ take from card.old }
-    ensures consumed { IfOk result (λ bytes. IfSome bytes (λ n. Consumes (R.remaining file.old) (R.remaining file.new) (take (n - from) (drop from card.new)))) }
+    ensures consumed { IfOk result (λ some. IfSome some (λ n. Consumes (R.remaining file.old) (R.remaining file.new) (take (n - from) (drop from card.new)))) }
     ensures ended { result ≡ Ok None → Consumes (R.remaining file.old) (R.remaining file.new) [] }
     ensures end { result ≡ Ok None → from < length card.new → IsAtEnd (R.remaining file.new) }
     ensures failed { IfErr result (λ _. Consumes (R.remaining file.old) (R.remaining file.new) []) }
