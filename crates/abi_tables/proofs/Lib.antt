@@ -3,3 +3,4 @@ pub mod Tables
 pub mod InUse
 pub mod Brought
 pub mod Few
+pub mod Serving

@@ -1,6 +1,7 @@
 // The call, the question, the copy and replay with all tables lent as bytes of any length. docs/LAYOUT.md says how the tables stand in them.
 #![tactic(auto)]
 
+mod bytes;
 mod copying;
 mod questions;
 mod replaying;

@@ -2,15 +2,11 @@
 // card that could not be read, and a write that fails, are said on standard error, and nothing more is printed.
 #![tactic(auto)]
 
-use card_input::{fail, file_name, name_too_long, read_card};
+use card_input::{Stopped, file_name, name_too_long, read_card, stop};
 use std::env::FillError;
 use std::fs::File;
 use std::io::{Error, Read, Write};
 use std::rt::{Env, Files};
-
-// Something failed, which was said on standard error.
-#[derive(Clone, Copy)]
-struct Stopped;
 
 // The report, and where its text and what fails are written.
 #[derive(Drop)]
@@ -25,11 +21,6 @@ fn open<R: Files>(rt: &R, name: &[u8]) -> Result<R::File, Error> {
 }
 
 impl<O: Write, E: Write> Feeder<'_, O, E> {
-    fn stop(&mut self, what: &[u8], error: Error) -> Stopped {
-        fail(self.errors, what, error);
-        Stopped
-    }
-
     // Writes a text that stands in the buffer.
     fn show(&mut self, listed: Option<usize>, text: &[u8]) -> Result<(), Stopped> {
         let Some(n) = listed else {
@@ -40,17 +31,17 @@ impl<O: Write, E: Write> Feeder<'_, O, E> {
         };
         match self.output.write_all(text) {
             Ok(()) => Ok(()),
-            Err(error) => Err(self.stop(b"boxreport: standard output", error)),
+            Err(error) => Err(stop(self.errors, b"boxreport: standard output", error)),
         }
     }
 
     // A card that was read, and the line of one that is refused.
     fn feed(&mut self, name: &[u8], card: &[u8]) -> Result<(), Stopped> {
         match report_text::feed_card(&mut self.held, card) {
-            0 => Ok(()),
-            number => {
+            Ok(()) => Ok(()),
+            Err(refusal) => {
                 let mut text = [0u8; 8192];
-                let listed = report_text::list_refused(number, name, &mut text);
+                let listed = report_text::list_refused(refusal.number(), name, &mut text);
                 self.show(listed, &text)
             }
         }
@@ -61,14 +52,14 @@ impl<O: Write, E: Write> Feeder<'_, O, E> {
         let mut card = [0u8; 65537];
         match read_card(file, &mut card) {
             Ok(n) => self.feed(name, &card[..n]),
-            Err(failed) => Err(self.stop(name, failed.error)),
+            Err(failed) => Err(stop(self.errors, name, failed.error)),
         }
     }
 
     fn feed_named<R: Files>(&mut self, rt: &R, name: &[u8]) -> Result<(), Stopped> {
         match open(rt, name) {
             Ok(mut file) => self.feed_open(name, &mut file),
-            Err(error) => Err(self.stop(name, error)),
+            Err(error) => Err(stop(self.errors, name, error)),
         }
     }
 
@@ -81,7 +72,11 @@ impl<O: Write, E: Write> Feeder<'_, O, E> {
                 Ok(true)
             }
             Err(FillError::NotPresent) => Ok(false),
-            Err(FillError::TooLong) => Err(self.stop(b"boxreport: a card's name", name_too_long())),
+            Err(FillError::TooLong) => Err(stop(
+                self.errors,
+                b"boxreport: a card's name",
+                name_too_long(),
+            )),
         }
     }
 

@@ -1,4 +1,3 @@
 pub mod Building
 pub mod Planned
 pub mod Answering
-pub mod Asking

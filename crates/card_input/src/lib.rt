@@ -1,12 +1,11 @@
 // A card read from an open file, or from whatever else gives bytes; the names of files; and the line that says what failed.
 #![tactic(auto)]
 
-ghost use Rattle.std.specs.Prelude.{◌≡◌, IfOk, IfErr, OnErr, IsUtf8, ◌<◌, ◌≤◌, ◌-◌, take, drop, length};
+ghost use Rattle.std.specs.Prelude.{◌≡◌, IfOk, IfErr, IfSome, OnErr, IsUtf8, ◌<◌, ◌≤◌, ◌-◌, [], take, drop, length};
 ghost use Rattle.std.specs.Io.KnownBytes.{Consumes, IsAtEnd};
 ghost use Rattle.io.specs.Counts.{IsPrefixLen};
 ghost use Rattle.std.specs.IoError.{error_kind};
 ghost use Rattle.std.specs.declared.io.ErrorKind.TheVariants.{Interrupted, InvalidFilename};
-ghost use Rattle.card_input.specs.declared.State.TheVariants.{Ended, Failed};
 
 use std::io::{Error, ErrorKind, Read, Write};
 
@@ -17,61 +16,37 @@ pub struct ReadFailed {
     pub error: Error,
 }
 
-// Whether the file may have more, has ended, or could not be read, and why not.
-#[derive(Clone, Copy)]
-enum State {
-    Going,
-    Ended,
-    Failed(Error),
-}
-
-// After one read: how many bytes of the file stand at the start of the buffer.
-#[derive(Clone, Copy)]
-struct Reading {
-    bytes: usize,
-    state: State,
-}
-
 // What a read that failed means: a signal cut it before a byte came, and it is done again, or there is no more to be had.
-fn cut_or_failed(error: Error) -> State
-    ensures no_end { ¬ (result ≡ Ended) }
-    ensures retried { (e : Error) → result ≡ Failed e → ¬ (error_kind e ≡ Interrupted) }
+fn cut_or_failed(cause: Error, from: usize) -> Result<Option<usize>, Error>
+    ensures cut { IfOk result (λ bytes. bytes ≡ Some from) }
+    ensures retried { IfErr result (λ e. ¬ (error_kind e ≡ Interrupted)) }
 {
-    if error.kind() == ErrorKind::Interrupted {
-        State::Going
+    if cause.kind() == ErrorKind::Interrupted {
+        Ok(Some(from))
     } else {
-        State::Failed(error)
+        Err(cause)
     }
 }
 
-// One read of the file, after the first `from` bytes. A full buffer ends it: nothing more is asked for.
-fn read_on<R: Read>(file: &mut R, card: &mut [u8], from: usize) -> Reading
-    ensures within { result.«bytes» ≤ length card.new }
-    ensures kept { from ≤ length card.old → from ≤ result.«bytes» }
+// One read of the file, after the first `from` bytes: how many bytes of it stand at the start of the buffer then, or that it has ended. A full buffer ends it:
+// nothing more is asked for.
+fn read_on<R: Read>(file: &mut R, card: &mut [u8], from: usize) -> Result<Option<usize>, Error>
+    ensures within { IfOk result (λ bytes. IfSome bytes (λ n. n ≤ length card.new)) }
+    ensures kept { IfOk result (λ bytes. IfSome bytes (λ n. from ≤ n)) }
     ensures front { take from card.new ≡ take from card.old }
-    ensures consumed { Consumes (R.remaining file.old) (R.remaining file.new) (take (result.«bytes» - from) (drop from card.new)) }
-    ensures end { result.state ≡ Ended → result.«bytes» < length card.new → IsAtEnd (R.remaining file.new) }
-    ensures retried { (e : Error) → result.state ≡ Failed e → ¬ (error_kind e ≡ Interrupted) }
+    ensures consumed { IfOk result (λ some. IfSome some (λ n. Consumes (R.remaining file.old) (R.remaining file.new) (take (n - from) (drop from card.new)))) }
+    ensures ended { result ≡ Ok None → Consumes (R.remaining file.old) (R.remaining file.new) [] }
+    ensures end { result ≡ Ok None → from < length card.new → IsAtEnd (R.remaining file.new) }
+    ensures failed { IfErr result (λ _. Consumes (R.remaining file.old) (R.remaining file.new) []) }
+    ensures retried { IfErr result (λ e. ¬ (error_kind e ≡ Interrupted)) }
 {
     if card.len() < from {
-        return Reading {
-            bytes: 0,
-            state: State::Failed(Error::from(ErrorKind::InvalidInput)),
-        };
+        return Err(Error::from(ErrorKind::InvalidInput));
     }
     match file.read(&mut card[from..]) {
-        Ok(0) => Reading {
-            bytes: from,
-            state: State::Ended,
-        },
-        Ok(n) => Reading {
-            bytes: from + n,
-            state: State::Going,
-        },
-        Err(error) => Reading {
-            bytes: from,
-            state: cut_or_failed(error),
-        },
+        Ok(0) => Ok(None),
+        Ok(n) => Ok(Some(from + n)),
+        Err(error) => cut_or_failed(error, from),
     }
 }
 
@@ -87,17 +62,10 @@ pub fn read_card<R: Read>(file: &mut R, card: &mut [u8]) -> Result<usize, ReadFa
 {
     let mut bytes = 0;
     for _ in 0..u64::MAX {
-        let reading = read_on(file, card, bytes);
-        bytes = reading.bytes;
-        match reading.state {
-            State::Going => {}
-            State::Ended => return Ok(bytes),
-            State::Failed(cause) => {
-                return Err(ReadFailed {
-                    bytes,
-                    error: cause,
-                });
-            }
+        match read_on(file, card, bytes) {
+            Ok(Some(n)) => bytes = n,
+            Ok(None) => return Ok(bytes),
+            Err(error) => return Err(ReadFailed { bytes, error }),
         }
     }
     Err(ReadFailed {
@@ -110,6 +78,16 @@ pub fn read_card<R: Read>(file: &mut R, card: &mut [u8]) -> Result<usize, ReadFa
 pub fn fail<W: Write>(to: &mut W, what: &[u8], error: Error) {
     let _ = to.write_all(what);
     let _ = writeln!(to, ": {error}");
+}
+
+// Something failed, which was said: nothing more is printed.
+#[derive(Clone, Copy)]
+pub struct Stopped;
+
+// The same as `fail`, for a caller that answers it.
+pub fn stop<W: Write>(to: &mut W, what: &[u8], error: Error) -> Stopped {
+    fail(to, what, error);
+    Stopped
 }
 
 // A file's name, as the system's calls take it here: text.

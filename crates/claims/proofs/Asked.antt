@@ -5,9 +5,8 @@ use mathlib.Core.Bool.{true}
 use mathlib.Core.List.{List, [], ◌∷◌}
 use Prim.Native.Nat.{ℕ}
 use Rattle.record.specs.Record.{Item}
-use Rattle.queues.specs.declared.Lower.{Lower}
-use Rattle.queues.specs.declared.Lower.TheVariants.{After as after_position}
-use Rattle.queues.specs.declared.Upper.{Upper}
+use Rattle.std.specs.declared.ops.Bound.{Bound}
+use Rattle.std.specs.declared.ops.Bound.TheVariants.{Excluded as excluded}
 use Rattle.queues.specs.Queues.{Queue, Found, held, find, rising}
 use Rattle.queues.specs.Ranges.{all_in_range, FirstItem, no_item, first_item, first_of, range_of}
 use Rattle.queues.specs.Layout.{Memory, meaning}
@@ -19,6 +18,8 @@ use Rattle.queues.proofs.Ordered.{in_order_found}
 use Rattle.queues.proofs.Ranges.{ask_again}
 use Rattle.calls.specs.Questions.{RangeAnswer, question_refusal, range_by, range_answer}
 use Rattle.calls.proofs.Passed.{question_passed}
+use Rattle.std.specs.Prelude.{Result}
+use Rattle.calls.specs.declared.Refusal.{Refusal}
 use Rattle.call_write.specs.declared.QuestionAnswer.{QuestionAnswer}
 use Rattle.contracts.specs.Numbers.{range_numbers}
 use Rattle.contracts.specs.Promises.{RangeKept}
@@ -50,12 +51,12 @@ abbrev gave : FirstItem → RangeAnswer
 gave f = record { refusal = 0; found = f }
 
 -- what any question of it is answered
-range_given : (m : Memory) (ks n : List ℕ) (lo : Lower) (hi : Upper) (a : QuestionAnswer) (q : OfQueue m ks n) → RangeKept m ks n lo hi a
+range_given : (m : Memory) (ks n : List ℕ) (lo : Bound ℕ) (hi : Bound ℕ) (a : Result QuestionAnswer Refusal) (q : OfQueue m ks n) → RangeKept m ks n lo hi a
     → range_numbers m.payloads a ≡ gave (range_of lo hi q.queue.records)
 unfolding range_answer range_by
 range_given m ks n lo hi a q w = w.answer ∙ ap₂ (λ (i : ℕ) (g : Found). range_by i g lo hi) q.passed q.is_held
 
-module _ (m : Memory) (ks n : List ℕ) (lo : Lower) (hi : Upper) (f : FirstItem) (w : RangeGave m ks n lo hi f) where
+module _ (m : Memory) (ks n : List ℕ) (lo : Bound ℕ) (hi : Bound ℕ) (f : FirstItem) (w : RangeGave m ks n lo hi f) where
   gave_of : OfQueue m ks n
   gave_of =
       of_queue m ks n (sym (range-refusal (arranged_with m ks) (meaning m) n lo hi) ∙ ap (λ (x : RangeAnswer). x.refusal) (sym w.kept.answer ∙ w.given))
@@ -82,12 +83,12 @@ nothing (x ∷ xs) e = never (cc)
 
 -- ---- asking again
 
-module _ (m : Memory) (ks n : List ℕ) (lo : Lower) (hi : Upper) (i : Item) (w : RangeGave m ks n lo hi (first_item i)) (q : OfQueue m ks n) where
+module _ (m : Memory) (ks n : List ℕ) (lo : Bound ℕ) (hi : Bound ℕ) (i : Item) (w : RangeGave m ks n lo hi (first_item i)) (q : OfQueue m ks n) where
   range-begins : Begins i (all_in_range lo hi q.queue.records)
   range-begins = begins i (all_in_range lo hi q.queue.records) (first_given m ks n lo hi (first_item i) w q)
 
   -- the range after i is the rest of the range
-  range_again : all_in_range (after_position i.position) hi q.queue.records ≡ range-begins.later
+  range_again : all_in_range (excluded i.position) hi q.queue.records ≡ range-begins.later
   range_again = ask_again lo hi q.queue.start q.queue.records i range-begins.later q.rises range-begins.parts
 
 pub asked_again : AskedAgain
@@ -100,18 +101,18 @@ asked_again m ks n lo hi i a w k =
       later = (range-begins m ks n lo hi i w q).later;
       range = (range-begins m ks n lo hi i w q).parts;
       next =
-          range_given m ks n (after_position i.position) hi a q k
+          range_given m ks n (excluded i.position) hi a q k
           ∙ ap (λ (xs : List Item). gave (first_of xs)) (range_again m ks n lo hi i w q);
     }
 
 -- ---- to the last
 
-through : (m : Memory) (ks n : List ℕ) (hi : Upper) (lo : Lower) (is : List Item) (q : OfQueue m ks n) → Asks m ks n hi lo is → is ≡ all_in_range lo hi q.queue.records
+through : (m : Memory) (ks n : List ℕ) (hi : Bound ℕ) (lo : Bound ℕ) (is : List Item) (q : OfQueue m ks n) → Asks m ks n hi lo is → is ≡ all_in_range lo hi q.queue.records
 through m ks n hi lo _ q (last w) = sym (nothing (all_in_range lo hi q.queue.records) (first_given m ks n lo hi no_item w q))
 through m ks n hi lo _ q (more {is} i w rest) =
-    ap (λ (xs : List Item). i ∷ xs) (through m ks n hi (after_position i.position) is q rest ∙ range_again m ks n lo hi i w q) ∙ sym (range-begins m ks n lo hi i w q).parts
+    ap (λ (xs : List Item). i ∷ xs) (through m ks n hi (excluded i.position) is q rest ∙ range_again m ks n lo hi i w q) ∙ sym (range-begins m ks n lo hi i w q).parts
 
-asked_of : (m : Memory) (ks n : List ℕ) (lo : Lower) (hi : Upper) (is : List Item) → Asks m ks n hi lo is → OfQueue m ks n
+asked_of : (m : Memory) (ks n : List ℕ) (lo : Bound ℕ) (hi : Bound ℕ) (is : List Item) → Asks m ks n hi lo is → OfQueue m ks n
 asked_of m ks n lo hi _ (last w) = gave_of m ks n lo hi no_item w
 asked_of m ks n lo hi _ (more i w rest) = gave_of m ks n lo hi (first_item i) w
 

@@ -10,12 +10,13 @@ use native.Mathlib.Omega.{arith}
 use lib.Dec.{leb, ltb, eqb}
 use lib.ListN.{length, take, drop}
 use Rattle.crc32.specs.Crc.{crc32}
+use Rattle.std.specs.Prelude.{Ok, Err}
+use Rattle.frame.specs.declared.ReadFrameError.TheVariants.{Corruption as bad_frame, NotAvailable as no_frame}
 use Rattle.frame.specs.declared.Reader.{Reader}
-use Rattle.frame.specs.declared.TypeByte.{TypeByte}
-use Rattle.frame.specs.declared.TypeByte.TheVariants.{Known as known, Unknown as unknown}
+use Rattle.std.specs.Prelude.{Option, Some as known, None as unknown}
 use Rattle.frame.specs.declared.FrameType.{FrameType}
-use Rattle.frame.specs.declared.FrameAnswer.{FrameAnswer}
-use Rattle.frame.specs.declared.FrameAnswer.TheVariants.{Sound as sound, Corrupt as corrupt, NotAvailable as not_available}
+use Rattle.frame.specs.Reader.{FrameAnswer}
+use Rattle.frame.specs.Reader.{sound, corrupt, not_available}
 use Rattle.frame.specs.Frame.{type_of, all_zero, header_of, content_of, ends}
 use Rattle.frame.specs.Block.{blocks}
 use Rattle.frame.specs.Reader.{fresh, judge, look, read_at, must_move, moved, read_frame, used_of, used, ahead}
@@ -41,7 +42,7 @@ use Rattle.claims.proofs.Readers.{step_by_lem}
 
 -- ---- no frame takes a reader back, end of log either
 
-judge_later : (z : Bool) (k : TypeByte) (f e : Bool) (b c n : ℕ) → c ≤ 32768 → b * 4681 + c / 7 ≤ used (judge z k f e b c n).reader
+judge_later : (z : Bool) (k : Option FrameType) (f e : Bool) (b c n : ℕ) → c ≤ 32768 → b * 4681 + c / 7 ≤ used (judge z k f e b c n).reader
 unfolding judge used used_of
 judge_later true k f e b c n h = omega arith
 judge_later false unknown f e b c n h = omega arith
@@ -87,9 +88,9 @@ module _ (first : Reader) (u : ℕ) where
 
     on_frame_later : (log : List ℕ) (limit : ℕ) (b : Begun) (a : FrameAnswer) → Later (on_frame log limit first b a r go)
     unfolding on_frame
-    on_frame_later log limit b (sound t s n) = join_later limit t (gather b t (take n (drop s log)))
-    on_frame_later log limit b (corrupt c) = inr h
-    on_frame_later log limit b not_available = inr h
+    on_frame_later log limit b (Ok f) = join_later limit f.kind (gather b f.kind (take f.len (drop f.start log)))
+    on_frame_later log limit b (Err (bad_frame c)) = inr h
+    on_frame_later log limit b (Err no_frame) = inr h
 
   next_later : (k : ℕ) (log : List ℕ) (limit : ℕ) (b : Begun) (r : Reader) → Arranged log r → u ≤ used r → Later (next k log limit first b r)
   unfolding next

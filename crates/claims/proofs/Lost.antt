@@ -27,14 +27,17 @@ use Rattle.lost_bytes.specs.Costs.{hit_cost}
 use Rattle.lost_bytes.proofs.Within.{lost_within}
 use Rattle.lost_bytes.proofs.Hit.{states_lose_nothing, states_hit_costs}
 use Rattle.lost_bytes.proofs.Struck.{states_struck-within}
-use Rattle.read_step.specs.declared.ReplayAnswer.{ReplayAnswer}
-use Rattle.read_step.specs.declared.ReplayAnswer.TheVariants.{Replayed as replayed}
-use Rattle.contracts.specs.Promises.{Lent, state_of, ReplayKept, replay_answer_by, replay_answer}
+use Rattle.calls.specs.declared.Refusal.{Refusal as RefusalOf}
+use native.Mathlib.Omega.{arith}
+use Rattle.std.specs.Prelude.{Result}
+use Rattle.calls.specs.Refused.{numbered}
+use Rattle.read_step.specs.declared.Replayed.{Replayed as ReplayedAt}
+use Rattle.contracts.specs.Promises.{replayed, Lent, state_of, ReplayKept, replay_answer_by, replay_answer}
 use Rattle.contracts.specs.Run.{Run}
 use Rattle.contracts.proofs.Runs.{run_means}
 use Rattle.contracts.proofs.Readings.{reads_all}
 use Rattle.contracts.specs.Turning.{QueuesReplayed}
-use Rattle.contracts.proofs.ReplayTable.{queues_kept, replayed_long}
+use Rattle.contracts.proofs.ReplayTable.{numbers_in, answer_ok, queues_kept, replayed_long}
 use Rattle.contracts.proofs.Demands.{answers, run_long}
 use Rattle.claims.specs.Claims.{NothingLost, RoundTripNothingLost, CountsOne, OneHitCounted, ReplayLostWithin, CallsLoseNothing, LosesBytes, HitCosts, StruckWithin}
 
@@ -56,8 +59,8 @@ none_lost h s r =
     (subst (NoneLonger s.scratch) (sym (same_records r)) (none_longer s.scratch (follows r).list (follows r).stands.in_scratch)))
     ∙ records_lose (records_of (machine h).records)
 
-module _ (h : List Fed) (l : Lent) (r : Run h l) (scratch scratch' : List ℕ) (m m' : Memory) (a : ReplayAnswer)
-    (e : length scratch ≡ length l.scratch) (f : capacities m ≡ capacities l.memory) (w : QueuesReplayed l.log scratch m a scratch' m') where
+module _ (h : List Fed) (l : Lent) (r : Run h l) (scratch scratch' : List ℕ) (m m' : Memory) (a : Result ReplayedAt RefusalOf)
+    (e : length scratch ≡ length l.scratch) (f : capacities m ≡ capacities l.memory) (w : QueuesReplayed l.log scratch m (numbered a) scratch' m') where
   given_back : replay_of l.log (capacities m) (length scratch) ≡ left (meaning l.memory)
   unfolding state_of
   given_back =
@@ -83,8 +86,9 @@ module _ (h : List Fed) (l : Lent) (r : Run h l) (scratch scratch' : List ℕ) (
       record {
         resumed = resume l.log (length scratch);
         answer =
-            answers l.log scratch scratch' m m' a w (left (meaning l.memory)) given_back
-            ∙ ap₂ (λ (n b : ℕ). replayed n b (resume l.log (length scratch))) lost_is bytes_is;
+            answer_ok a _
+            (answers l.log scratch scratch' m m' a w (left (meaning l.memory)) given_back
+            ∙ ap₂ (λ (n b : ℕ). replayed n b (resume l.log (length scratch))) lost_is bytes_is);
         resumes = resumed_is;
       }
 
@@ -97,15 +101,15 @@ round_trip_nothing_lost h l r scratch scratch' m m' ks ks' a e f g w =
 -- what a replay that was not refused counts
 told_lost : (o : Outcome) (lost lost' bytes bytes' p p' : ℕ) → replayed lost bytes p ≡ replay_answer (replayed_by o lost' bytes' p') → (lost ≡ lost') × (bytes ≡ bytes')
 unfolding replayed_by replay_answer replay_answer_by
-told_lost (refused n) lost lost' bytes bytes' p p' e = never (cc)
-told_lost (left qs) lost lost' bytes bytes' p p' e = (cc, cc)
+told_lost (refused n) lost lost' bytes bytes' p p' e = let z : ◌≡◌ {A = ℕ} 0 1 = cc in absurd (omega arith)
+told_lost (left qs) lost lost' bytes bytes' p p' e = (ap (λ x. (numbers_in x).lost) e, ap (λ x. (numbers_in x).lost_bytes) e)
 
 module _ (log scratch scratch' : List ℕ) (m m' : Memory) (ks ks' : List ℕ) (lost bytes resumed : ℕ) (w : ReplayKept log scratch m ks (replayed lost bytes resumed) scratch' m' ks') where
   told : (lost ≡ lost_in (readings log (length scratch))) × (bytes ≡ lost_bytes log (length scratch))
   told =
       told_lost (replay_of log (capacities m) (length scratch)) lost (lost_in (readings log (length scratch))) bytes (lost_bytes log (length scratch)) resumed (resume log (length scratch))
       (answers log scratch scratch' m m' (replayed lost bytes resumed)
-      (queues_kept log m ks (λ _. replayed_long log scratch scratch' m m' ks ks' lost bytes resumed w) scratch scratch' m' (replayed lost bytes resumed) ks' w) (replay_of log (capacities m) (length scratch)) refl)
+      (queues_kept log m ks (λ _. replayed_long log scratch scratch' m m' ks ks' _ w) scratch scratch' m' (replayed lost bytes resumed) ks' w) (replay_of log (capacities m) (length scratch)) refl)
 
 counts-one : (hit : List ℕ) (limit : ℕ) → lost_in (readings hit limit) ≡ 1 → CountsOne hit limit
 counts-one hit limit e =

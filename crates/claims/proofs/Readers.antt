@@ -14,7 +14,7 @@ use Rattle.frame.specs.Internal.{Arranged}
 use Rattle.recordlog.specs.Read.{Answer, whole, corruption, end_of_log, too_long, Next, next_record}
 use Rattle.recordlog.proofs.Forward.{next_record-turned}
 use Rattle.record.specs.declared.MultiPlexedRecord.{MultiPlexedRecord}
-use Rattle.record.specs.declared.MultiPlexedRecord.TheVariants.{Truncate, Touch, Delete, Append, Mark, None}
+use Rattle.std.specs.Prelude.{Option, Some, None}
 use Rattle.record.specs.Places.{decoded_at}
 use Rattle.queues.proofs.Both.{never}
 use Rattle.calls.specs.Refusals.{reader_not_arranged, read_refusals}
@@ -22,8 +22,12 @@ use Rattle.calls.specs.Claims.{applies_in}
 use Rattle.calls.specs.Reading.{read_refusal}
 use Rattle.calls.proofs.Chain.{lowest_first}
 use Rattle.calls.proofs.Passed.{log_taken, read_passed}
-use Rattle.read_step.specs.declared.ReadAnswer.TheVariants.{Refused as read_refused}
+use Rattle.calls.specs.declared.Refusal.TheVariants.{NotArranged}
+use Rattle.calls.specs.Refused.{refusal_number}
+use Rattle.read_step.specs.declared.ReadAnswer.{ReadAnswer}
+use Rattle.read_step.specs.declared.ReadAnswer.TheVariants.{Record as record_at, Corruption as corruption_of, EndOfLog as end_of, Refused as read_refused}
 use Rattle.read_step.specs.declared.ReadStep.{ReadStep}
+use Rattle.contracts.proofs.Readings.{NumberOf, read_number}
 use Rattle.read_step.specs.Read.{answer_at, answer_told, read_step_by, read_step}
 use Rattle.claims.specs.Claims.{ReaderNeverMeetsSix, FreshReaderArranged, ReadLeavesArranged}
 use Rattle.claims.proofs.Six.{or_false, not_given}
@@ -40,26 +44,29 @@ read_six : (log : List ℕ) (r : Reader) → applies_in 6 (read_refusals log r) 
 unfolding applies_in read_refusals
 read_six log r = or_false (reader_not_arranged log r)
 
-record_not_six : (m : MultiPlexedRecord) → answer_at m ≡ read_refused 6 → ⊥
-unfolding answer_at
-record_not_six (Truncate p a n) e = never (cc)
-record_not_six (Touch p a n) e = never (cc)
-record_not_six (Delete p a n) e = never (cc)
-record_not_six (Append p a n c) e = never (cc)
-record_not_six (Mark p a) e = never (cc)
-record_not_six None e = never (cc)
+-- the number of a refusal
+abbrev number_in : ReadAnswer → ℕ
+number_in (record_at m) = 0
+number_in (corruption_of l) = 0
+number_in end_of = 0
+number_in (read_refused q) = refusal_number q
 
-told_not_six : (x : Answer) → answer_told x ≡ read_refused 6 → ⊥
+record_not_six : (m : Option MultiPlexedRecord) → answer_at m ≡ read_refused NotArranged → ⊥
+unfolding answer_at
+record_not_six (Some m) e = let z : ◌≡◌ {A = ℕ} 0 6 = ap number_in e in omega arith
+record_not_six None e = let z : ◌≡◌ {A = ℕ} 0 6 = ap number_in e in omega arith
+
+told_not_six : (x : Answer) → answer_told x ≡ read_refused NotArranged → ⊥
 unfolding answer_told
 told_not_six (whole ys) e = record_not_six (decoded_at ys) e
-told_not_six (corruption c) e = never (cc)
-told_not_six end_of_log e = never (cc)
-told_not_six too_long e = let z : ◌≡◌ {A = ℕ} 11 6 = cc in omega arith
+told_not_six (corruption c) e = let z : ◌≡◌ {A = ℕ} 0 6 = ap number_in e in omega arith
+told_not_six end_of_log e = let z : ◌≡◌ {A = ℕ} 0 6 = ap number_in e in omega arith
+told_not_six too_long e = let z : ◌≡◌ {A = ℕ} 11 6 = ap number_in e in omega arith
 
-step_six : (k : ℕ) (x : Next) (r : Reader) → (read_step_by k x r).answer ≡ read_refused 6 → k ≡ 6
+step_six : (k : ℕ) (x : Next) (r : Reader) → NumberOf k → (read_step_by k x r).answer ≡ read_refused NotArranged → k ≡ 6
 unfolding read_step_by
-step_six zero x r e = absurd (told_not_six x.answer e)
-step_six (suc k) x r e = cc
+step_six zero x r n e = absurd (told_not_six x.answer e)
+step_six (suc k) x r n e = sym n ∙ ap number_in e
 
 -- ---- which reader does not meet 6
 
@@ -69,7 +76,7 @@ reader_never_meets log r e =
     record {
       arranged = e;
       reads = λ s s' r' a w z.
-          not_given (read_refusals log r) (lowest_first.reads log r) (read_six log r ∙ e) (step_six (read_refusal log r) (next_record log (length s) r) r (sym w.answer ∙ z));
+          not_given (read_refusals log r) (lowest_first.reads log r) (read_six log r ∙ e) (step_six (read_refusal log r) (next_record log (length s) r) r (read_number log r) (sym w.answer ∙ z));
     }
 
 -- a reader inside the log

@@ -13,8 +13,7 @@ use Rattle.recordlog.specs.Read.{resume}
 use Rattle.queues.specs.Queues.{Queue, Found, missing, held, find}
 use Rattle.queues.specs.Layout.{Memory, meaning, capacities}
 use Rattle.largest.specs.Table.{arranged_with}
-use Rattle.queues.specs.declared.Lower.{Lower}
-use Rattle.queues.specs.declared.Upper.{Upper}
+use Rattle.std.specs.declared.ops.Bound.{Bound}
 use Rattle.calls.specs.State.{State, Call, create_call, delete_call, truncate_call, append_call, mark_call, CallAnswer, Returned}
 use Rattle.calls.specs.Payloads.{first_position, gives_empty}
 use Rattle.calls.specs.Refusals.{Refusal, first_refusal, log_refused, state_not_arranged, next_named, input_refusals, write_refusals, create_refusals, delete_refusals, truncate_refusals, taking_refusals, append_refusals, mark_refusals, place_not_arranged, refusals_of, refusal_of, question_refusals}
@@ -33,12 +32,15 @@ use Rattle.calls.proofs.AnyLog.{resumes_in_log}
 use Rattle.call_write.specs.declared.Question.{Question}
 use Rattle.call_write.specs.declared.Question.TheVariants.{Positions, Range, Largest}
 use Rattle.call_write.specs.declared.QuestionAnswer.{QuestionAnswer}
-use Rattle.call_write.specs.declared.QuestionAnswer.TheVariants.{Refused as question_refused}
 use Rattle.contracts.specs.Numbers.{range_numbers, positions_numbers, LargestNumbers, largest_numbers, ReplayNumbers, replay_numbers}
-use Rattle.read_step.specs.declared.ReplayAnswer.{ReplayAnswer}
+use Rattle.calls.specs.declared.Refusal.{Refusal as RefusalOf}
+use Rattle.calls.specs.declared.Refusal.TheVariants.{NotArranged}
+use Rattle.std.specs.Prelude.{Result, Err}
+use Rattle.calls.specs.Refused.{numbered}
+use Rattle.read_step.specs.declared.Replayed.{Replayed as ReplayedAt}
 use Rattle.contracts.specs.Promises.{Lent, state_of, CallKept, largest_by, largest_answer, QuestionKept, numbers_by, replay_meant}
 use Rattle.contracts.specs.Turning.{QueuesReplayed}
-use Rattle.contracts.proofs.ReplayTable.{queues_kept, replay_arranged}
+use Rattle.contracts.proofs.ReplayTable.{numbers_told, queues_kept, replay_arranged}
 use Rattle.contracts.proofs.Runs.{call_means}
 use Rattle.claims.specs.Claims.{NeverMeetsSix, CallLeavesArranged, CallWasArranged, ReplayLeavesArranged, lent_not_arranged}
 use Rattle.claims.proofs.LogLeft.{call_leaves, left_arranged}
@@ -102,7 +104,7 @@ call_refusal l l' k a w = ap (λ (x : CallAnswer). x.refusal) w.answer ∙ refus
 
 -- ---- questions
 
-pub range-refusal : (b : Bool) (qs : List Queue) (n : List ℕ) (lo : Lower) (hi : Upper) → (range_answer b qs n lo hi).refusal ≡ question_refusal b qs n
+pub range-refusal : (b : Bool) (qs : List Queue) (n : List ℕ) (lo : Bound ℕ) (hi : Bound ℕ) → (range_answer b qs n lo hi).refusal ≡ question_refusal b qs n
 unfolding range_answer range_by
 range-refusal b qs n lo hi = go (question_refusal b qs n) (find n qs)
   where
@@ -129,18 +131,18 @@ largest_refusal b qs n = go (question_refusal b qs n) (find n qs)
     go zero (held q) = refl
     go (suc i) f = refl
 
-question_refusal_lem : (m : Memory) (ks n : List ℕ) (q : Question) (a : QuestionAnswer) → QuestionKept m ks n q a → a ≡ question_refused 6
+question_refusal_lem : (m : Memory) (ks n : List ℕ) (q : Question) (a : Result QuestionAnswer RefusalOf) → QuestionKept m ks n q a → a ≡ Err NotArranged
     → question_refusal (arranged_with m ks) (meaning m) n ≡ 6
 unfolding range_numbers positions_numbers largest_numbers
 question_refusal_lem m ks n Largest a w e =
     sym (largest_refusal (arranged_with m ks) (meaning m) n) ∙ sym (ap (λ (x : LargestNumbers). x.refusal) w.answer)
-    ∙ ap (λ (x : QuestionAnswer). (largest_numbers x).refusal) e
+    ∙ ap (λ (x : Result QuestionAnswer RefusalOf). (largest_numbers x).refusal) e
 question_refusal_lem m ks n Positions a w e =
     sym (positions_refusal (arranged_with m ks) (meaning m) n) ∙ sym (ap (λ (x : PositionsNumbers). x.refusal) w.answer)
-    ∙ ap (λ (x : QuestionAnswer). (positions_numbers x).refusal) e
+    ∙ ap (λ (x : Result QuestionAnswer RefusalOf). (positions_numbers x).refusal) e
 question_refusal_lem m ks n (Range lo hi) a w e =
     sym (range-refusal (arranged_with m ks) (meaning m) n lo hi) ∙ sym (ap (λ (x : RangeNumbers). x.refusal) w.answer)
-    ∙ ap (λ (x : QuestionAnswer). (range_numbers m.payloads x).refusal) e
+    ∙ ap (λ (x : Result QuestionAnswer RefusalOf). (range_numbers m.payloads x).refusal) e
 
 -- ---- what is lent and does not meet 6
 
@@ -173,11 +175,11 @@ unfolding replay_meant replayed_by numbers_by
 meant_resumed (refused i) lost bytes p n h = omega arith
 meant_resumed (left qs) lost bytes p n h = h
 
-resumed_inside : (log scratch scratch' : List ℕ) (m m' : Memory) (a : ReplayAnswer) → log_refused log ≡ false → QueuesReplayed log scratch m a scratch' m'
+resumed_inside : (log scratch scratch' : List ℕ) (m m' : Memory) (a : Result ReplayedAt RefusalOf) → log_refused log ≡ false → QueuesReplayed log scratch m (numbered a) scratch' m'
     → (replay_numbers a).resumed ≤ blocks log * 32768
 unfolding replay_call
 resumed_inside log scratch scratch' m m' a e w =
-    subst (λ (x : ReplayNumbers). x.resumed ≤ blocks log * 32768) (sym w.numbers)
+    subst (λ (x : ReplayNumbers). x.resumed ≤ blocks log * 32768) (sym (numbers_told a (replay_call log (capacities m) (length scratch)) w.answer))
     (meant_resumed (replay_of log (capacities m) (length scratch)) (lost_in (readings log (length scratch))) (lost_bytes log (length scratch)) (resume log (length scratch)) (blocks log * 32768)
     (resumes_in_log log (length scratch) (log_taken log e).some))
 

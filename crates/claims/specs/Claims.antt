@@ -2,16 +2,15 @@
 -- What document 01 says of every lent memory that is arranged, of every reader, of asking again, of the log's tail and of what a call counts; and what demands 2 and 3 say of `lost` and of
 -- the place where a writer resumes. Each claim is proved in proofs/ under its name in snake case.
 -- Assumes nothing.
-use Rattle.std.specs.Prelude.{◌≡◌, ◌⊎◌, Bool, false, List, ◌∷◌, ◌++◌, ℕ, ◌+◌, ◌*◌, ◌≤◌, ◌<◌, length, drop}
+use Rattle.std.specs.Prelude.{Result, Err, ◌≡◌, ◌⊎◌, Bool, false, List, ◌∷◌, ◌++◌, ℕ, ◌+◌, ◌*◌, ◌≤◌, ◌<◌, length, drop}
 use Rattle.frame.specs.declared.Reader.{Reader}
 use Rattle.frame.specs.Reader.{fresh}
 use Rattle.frame.specs.Block.{blocks, padding}
 use Rattle.recordlog.specs.Write.{Frame}
 use Rattle.recordlog.specs.Hit.{Hit, type_lost}
 use Rattle.record.specs.Record.{Item}
-use Rattle.queues.specs.declared.Lower.{Lower}
-use Rattle.queues.specs.declared.Lower.TheVariants.{After as after_position}
-use Rattle.queues.specs.declared.Upper.{Upper}
+use Rattle.std.specs.declared.ops.Bound.{Bound}
+use Rattle.std.specs.declared.ops.Bound.TheVariants.{Excluded as excluded}
 use Rattle.queues.specs.Queues.{Queue, held, find}
 use Rattle.queues.specs.Ranges.{all_in_range, first_item, first_of}
 use Rattle.queues.specs.Layout.{Memory, meaning, capacities}
@@ -26,13 +25,13 @@ use Rattle.lost_bytes.specs.Costs.{hit_cost}
 use Rattle.lost_bytes.specs.Claims.{StruckParts}
 use Rattle.call_write.specs.declared.Question.{Question}
 use Rattle.call_write.specs.declared.QuestionAnswer.{QuestionAnswer}
-use Rattle.call_write.specs.declared.QuestionAnswer.TheVariants.{Refused as question_refused}
 use Rattle.contracts.specs.Numbers.{range_numbers, replay_numbers}
 use Rattle.read_step.specs.declared.ReadAnswer.{ReadAnswer}
 use Rattle.read_step.specs.declared.ReadAnswer.TheVariants.{Refused as read_refused}
-use Rattle.read_step.specs.declared.ReplayAnswer.{ReplayAnswer}
-use Rattle.read_step.specs.declared.ReplayAnswer.TheVariants.{Replayed as replayed}
-use Rattle.contracts.specs.Promises.{Lent, state_of, CallKept, RangeKept, QuestionKept, ReadKept, ReplayKept}
+use Rattle.calls.specs.declared.Refusal.{Refusal as RefusalOf}
+use Rattle.calls.specs.declared.Refusal.TheVariants.{NotArranged}
+use Rattle.read_step.specs.declared.Replayed.{Replayed as ReplayedAt}
+use Rattle.contracts.specs.Promises.{replayed, Lent, state_of, CallKept, RangeKept, QuestionKept, ReadKept, ReplayKept}
 use Rattle.contracts.specs.Run.{Run, Reads}
 use Rattle.claims.specs.ReadsOn.{ReadsOn}
 use Rattle.claims.specs.Asks.{RangeGave, Asks}
@@ -43,7 +42,7 @@ use Rattle.claims.specs.Asks.{RangeGave, Asks}
 pub record NeverMeetsSix (l : Lent) : Type 0 where
   pub arranged : state_not_arranged (state_of l) ≡ false
   pub calls : (k : Call) (a : CallAnswer) (l' : Lent) → CallKept l k a l' → a.refusal ≡ 6 → ⊥
-  pub questions : (n : List ℕ) (q : Question) (a : QuestionAnswer) → QuestionKept l.memory l.largest n q a → a ≡ question_refused 6 → ⊥
+  pub questions : (n : List ℕ) (q : Question) (a : Result QuestionAnswer RefusalOf) → QuestionKept l.memory l.largest n q a → a ≡ Err NotArranged → ⊥
 
 -- what a call left, whatever arranged memory it was lent; and so what any list of calls left, each lent what the one before left
 abbrev pub CallLeavesArranged : Type 0
@@ -64,13 +63,13 @@ CallWasArranged = (l l' : Lent) (k : Call) (a : CallAnswer) → CallKept l k a l
 -- What open left, whatever memory it was lent, with a further table that is long enough, of every log that is not refused 1, damaged ones too; the writer stands at the place that replay answered, which is 0
 -- where it was refused, and any scratch is lent.
 abbrev pub ReplayLeavesArranged : Type 0
-ReplayLeavesArranged = (log scratch scratch' : List ℕ) (m m' : Memory) (ks ks' : List ℕ) (a : ReplayAnswer) → log_refused log ≡ false → length m.entries ≤ length ks
+ReplayLeavesArranged = (log scratch scratch' : List ℕ) (m m' : Memory) (ks ks' : List ℕ) (a : Result ReplayedAt RefusalOf) → log_refused log ≡ false → length m.entries ≤ length ks
     → ReplayKept log scratch m ks a scratch' m' ks' → (s : List ℕ) → NeverMeetsSix (record { log = log; place = (replay_numbers a).resumed; scratch = s; memory = m'; largest = ks' })
 
 -- a reader that does not meet 6: no read answers it, whatever scratch is lent
 pub record ReaderNeverMeetsSix (log : List ℕ) (r : Reader) : Type 0 where
   pub arranged : reader_not_arranged log r ≡ false
-  pub reads : (s s' : List ℕ) (r' : Reader) (a : ReadAnswer) → ReadKept log s r a s' r' → a ≡ read_refused 6 → ⊥
+  pub reads : (s s' : List ℕ) (r' : Reader) (a : ReadAnswer) → ReadKept log s r a s' r' → a ≡ read_refused NotArranged → ⊥
 
 -- the fresh reader, and one that a read left
 abbrev pub FreshReaderArranged : Type 0
@@ -90,7 +89,7 @@ ReadsOnBound = (n : ℕ) (gs : List Given) → ReadsOn n fresh gs → counted_in
 -- ---- demand 2: nothing is lost, and where a writer resumes
 
 -- no corruption answer and no byte; "The writer resumes at the cursor": at the write position p, or after its padding where the reader had moved on
-pub record NothingLost (a : ReplayAnswer) (p : ℕ) : Type 0 where
+pub record NothingLost (a : Result ReplayedAt RefusalOf) (p : ℕ) : Type 0 where
   pub resumed : ℕ
   pub answer : a ≡ replayed 0 0 resumed
   pub resumes : (resumed ≡ p) ⊎ (resumed ≡ p + padding p)
@@ -98,7 +97,7 @@ pub record NothingLost (a : ReplayAnswer) (p : ℕ) : Type 0 where
 -- of every replay of which `RoundTrip` tells that it gives the queues
 abbrev pub RoundTripNothingLost : Type 0
 RoundTripNothingLost = (h : List Fed) (l : Lent) → Run h l
-    → (scratch scratch' : List ℕ) (m m' : Memory) (ks ks' : List ℕ) (a : ReplayAnswer) → length scratch ≡ length l.scratch → capacities m ≡ capacities l.memory
+    → (scratch scratch' : List ℕ) (m m' : Memory) (ks ks' : List ℕ) (a : Result ReplayedAt RefusalOf) → length scratch ≡ length l.scratch → capacities m ≡ capacities l.memory
     → length ks ≡ length l.largest → ReplayKept l.log scratch m ks a scratch' m' ks' → NothingLost a l.place
 
 -- ---- demand 3: one corruption is counted
@@ -157,7 +156,7 @@ StruckWithin = (h : List Fed) (l : Lent) → Run h l
 -- ---- "asking again with "after" that position gives the next"
 
 -- i is the first of the queue's records in the range, and a answers with the next of them, or with none
-pub record NextGiven (m : Memory) (n : List ℕ) (lo : Lower) (hi : Upper) (i : Item) (a : QuestionAnswer) : Type 0 where
+pub record NextGiven (m : Memory) (n : List ℕ) (lo : Bound ℕ) (hi : Bound ℕ) (i : Item) (a : Result QuestionAnswer RefusalOf) : Type 0 where
   pub queue : Queue
   pub is_held : find n (meaning m) ≡ held queue
   pub later : List Item
@@ -165,17 +164,17 @@ pub record NextGiven (m : Memory) (n : List ℕ) (lo : Lower) (hi : Upper) (i : 
   pub next : range_numbers m.payloads a ≡ record { refusal = 0; found = first_of later }
 
 abbrev pub AskedAgain : Type 0
-AskedAgain = (m : Memory) (ks n : List ℕ) (lo : Lower) (hi : Upper) (i : Item) (a : QuestionAnswer) → RangeGave m ks n lo hi (first_item i)
-    → RangeKept m ks n (after_position i.position) hi a → NextGiven m n lo hi i a
+AskedAgain = (m : Memory) (ks n : List ℕ) (lo : Bound ℕ) (hi : Bound ℕ) (i : Item) (a : Result QuestionAnswer RefusalOf) → RangeGave m ks n lo hi (first_item i)
+    → RangeKept m ks n (excluded i.position) hi a → NextGiven m n lo hi i a
 
 -- and so on to the last: all records of the queue in the range, by position
-pub record AllGiven (m : Memory) (n : List ℕ) (lo : Lower) (hi : Upper) (is : List Item) : Type 0 where
+pub record AllGiven (m : Memory) (n : List ℕ) (lo : Bound ℕ) (hi : Bound ℕ) (is : List Item) : Type 0 where
   pub queue : Queue
   pub is_held : find n (meaning m) ≡ held queue
   pub all : is ≡ all_in_range lo hi queue.records
 
 abbrev pub AskedThrough : Type 0
-AskedThrough = (m : Memory) (ks n : List ℕ) (lo : Lower) (hi : Upper) (is : List Item) → Asks m ks n hi lo is → AllGiven m n lo hi is
+AskedThrough = (m : Memory) (ks n : List ℕ) (lo : Bound ℕ) (hi : Bound ℕ) (is : List Item) → Asks m ks n hi lo is → AllGiven m n lo hi is
 
 -- ---- "whole blocks of 32,768 bytes; a shorter tail is never touched"
 

@@ -16,7 +16,9 @@ use Rattle.calls.specs.State.{State}
 use Rattle.calls.specs.Refusals.{log_refused, state_not_arranged}
 use Rattle.calls.specs.Reading.{readings}
 use Rattle.calls.specs.Replay.{left, replay_of}
-use Rattle.read_step.specs.declared.ReplayAnswer.{ReplayAnswer}
+use Rattle.calls.specs.declared.Refusal.{Refusal as RefusalOf}
+use Rattle.std.specs.Prelude.{Result}
+use Rattle.read_step.specs.declared.Replayed.{Replayed as ReplayedAt}
 use Rattle.contracts.specs.Promises.{state_of, ReplayKept}
 use Rattle.contracts.specs.Demands.{Gives}
 use Rattle.contracts.proofs.Readings.{reads_all}
@@ -61,7 +63,7 @@ module _ (target scratch target' scratch' : List ℕ) (m : Memory) (ks : List �
 
 -- ---- what replay's contract says of queues left
 
-gives_at : (log scratch scratch' : List ℕ) (m m' : Memory) (ks ks' : List ℕ) (a : ReplayAnswer) (c : Capacities) (limit : ℕ) (qs : List Queue)
+gives_at : (log scratch scratch' : List ℕ) (m m' : Memory) (ks ks' : List ℕ) (a : Result ReplayedAt RefusalOf) (c : Capacities) (limit : ℕ) (qs : List Queue)
     → length m.entries ≤ length ks → ReplayKept log scratch m ks a scratch' m' ks' → length scratch ≡ limit → capacities m ≡ c → replay_of log c limit ≡ left qs → Gives a m m' qs
 gives_at log scratch scratch' m m' ks ks' a c limit qs long w n f e =
     replays_as log scratch scratch' m m' a (queues_kept log m ks (λ _. long) scratch scratch' m' a ks' w) (legal_by log c limit qs e (log_refused log) refl) (left qs) (ap₂ (replay_of log) f n ∙ e)

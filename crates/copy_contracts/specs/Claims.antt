@@ -1,7 +1,7 @@
 -- Claim.
 -- What is promised of a copy over the lent memory. Each claim is proved in proofs/ under its name in snake case.
 -- Assumes nothing.
-use Rattle.std.specs.Prelude.{◌≡◌, false, List, [], ◌∷◌, ◌++◌, map, ℕ, ◌*◌, length, take}
+use Rattle.std.specs.Prelude.{Result, ◌≡◌, false, List, [], ◌∷◌, ◌++◌, map, ℕ, ◌*◌, length, take}
 use Rattle.frame.specs.Block.{blocks}
 use Rattle.frame.specs.Reader.{fresh}
 use Rattle.queues.specs.Layout.{Memory, meaning, capacities}
@@ -9,7 +9,8 @@ use Rattle.calls.specs.Refusals.{state_not_arranged}
 use Rattle.calls.specs.Reading.{gave_record, gave_end}
 use Rattle.calls.specs.Reading.{ReadAnswer as Given}
 use Rattle.calls.specs.Machine.{Fed, records_of, NoneLonger}
-use Rattle.read_step.specs.declared.ReplayAnswer.{ReplayAnswer}
+use Rattle.calls.specs.declared.Refusal.{Refusal as RefusalOf}
+use Rattle.read_step.specs.declared.Replayed.{Replayed as ReplayedAt}
 use Rattle.contracts.specs.Promises.{Lent, state_of, ReplayKept}
 use Rattle.contracts.specs.Run.{Reads}
 use Rattle.contracts.specs.Demands.{Gives}
@@ -27,7 +28,7 @@ CopyDone target scratch m ks end target' scratch' = CopyKept target scratch m ks
 -- with a further table as long as the copy's, whatever these hold; any answer and memory left that replay's contract allows.
 abbrev pub CopyReplays : Type 0
 CopyReplays = (target scratch target' scratch' : List ℕ) (m : Memory) (ks : List ℕ) (end : ℕ) → CopyDone target scratch m ks end target' scratch'
-    → (again again' : List ℕ) (n n' : Memory) (js js' : List ℕ) (a : ReplayAnswer) → length again ≡ length scratch → capacities n ≡ capacities m
+    → (again again' : List ℕ) (n n' : Memory) (js js' : List ℕ) (a : Result ReplayedAt RefusalOf) → length again ≡ length scratch → capacities n ≡ capacities m
     → length js ≡ length ks → ReplayKept target' again n js a again' n' js' → Gives a n n' (meaning m)
 
 -- "two equal sets of queues, both copied, give equal bytes in the whole blocks of targets of equal length": the scratches, the sizes and the arrangement of the
@@ -57,7 +58,7 @@ CopyPlaced = (target scratch target' scratch' : List ℕ) (m : Memory) (ks : Lis
 pub record GoesOn (m : Memory) (h : List Fed) (l : Lent) : Type 0 where
   pub reading : (s : List ℕ) (gs : List Given) → NoneLonger (length s) (machine_from (copied_machine (meaning m)) h).records → Reads l.log s fresh gs
       → gs ≡ map gave_record (records_of (machine_from (copied_machine (meaning m)) h).records) ++ (gave_end ∷ [])
-  pub replay : (again again' : List ℕ) (n n' : Memory) (js js' : List ℕ) (a : ReplayAnswer) → length again ≡ length l.scratch → capacities n ≡ capacities l.memory
+  pub replay : (again again' : List ℕ) (n n' : Memory) (js js' : List ℕ) (a : Result ReplayedAt RefusalOf) → length again ≡ length l.scratch → capacities n ≡ capacities l.memory
       → length js ≡ length l.largest → ReplayKept l.log again n js a again' n' js' → Gives a n n' (meaning l.memory)
 
 abbrev pub CopyGoesOn : Type 0

@@ -56,6 +56,10 @@ parts_join c xs ys = ap (run c) (bits-append xs ys) ∙ run-append c (bits xs) (
 pub two_parts : (c n : ℕ) (xs : List ℕ) → run (run c (bits (take n xs))) (bits (drop n xs)) ≡ run c (bits xs)
 two_parts c n xs = sym (parts_join c (take n xs) (drop n xs)) ∙ ap (λ (l : List ℕ). run c (bits l)) (take-append-drop n xs)
 
+-- some bytes take the register to r, and the others go in after them
+pub run_split : (c n r : ℕ) (xs front back : List ℕ) → front ≡ take n xs → back ≡ drop n xs → r ≡ run c (bits front) → run r (bits back) ≡ run c (bits xs)
+run_split c n r xs front back f b e = rw (e, f, b) (two_parts c n xs)
+
 -- the first n of the bytes that are left, and then the others
 pub run_some : (c i n : ℕ) (xs : List ℕ) → run (run c (bits (take n (drop i xs)))) (bits (drop (i + n) xs)) ≡ run c (bits (drop i xs))
 run_some c i n xs =

@@ -1,4 +1,3 @@
 pub mod Sums
 pub mod Entered
 pub mod Folding
-pub mod Lent

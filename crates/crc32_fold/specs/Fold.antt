@@ -3,12 +3,6 @@
 -- Assumes nothing.
 use Rattle.std.specs.Prelude.{◌≡◌, ◌⊎◌, List, [], ◌∷◌, ℕ, ◌+◌, ◌/◌, ◌%◌, ◌<◌, get_or}
 use Rattle.std.specs.Int.Bits.{bit_xor}
-use Rattle.crc32.specs.Wide.{wide_table}
-use Rattle.crc32_half.specs.Half.{half_table}
-
--- what may be lent as a table: the half table, or the wide one
-abbrev pub TableLent : List ℕ → Type 0
-TableLent t = (t ≡ half_table) ⊎ (t ≡ wide_table)
 
 -- the exponents of x ^ 300 + x ^ 155 + x ^ 117 + x ^ 89 + 1, a multiple of the polynomial of CRC-32: those below the highest, and all
 abbrev pub lower : List ℕ

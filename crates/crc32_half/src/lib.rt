@@ -1,18 +1,68 @@
-// CRC-32 by the half table, a constant as small as the byte table by which eight bytes go in at once. Each contract gives the result outright, by the bitwise
-// definition of `crc32`.
+// CRC-32 by a table of what a byte adds to the register through the bytes after it, some bytes a turn; and the half table, a constant as small as the byte
+// table. Each contract gives the result outright, by the bitwise definition of `crc32`.
 //
 // A constant array is copied to the stack wherever it is read, so the half table is lent once a call and is never read in a loop.
 #![tactic(auto)]
 
 mod table;
 
-ghost use Rattle.std.specs.Prelude.{◌≡◌, ◌++◌, ◌+◌, ◌%◌, ◌≤◌, ◌<◌, length};
+ghost use Rattle.std.specs.Prelude.{◌≡◌, ◌++◌, ◌+◌, ◌%◌, ◌≤◌, ◌<◌, ℕ, length};
 ghost use Rattle.std.specs.Int.Bits.{bit_xor};
 ghost use Rattle.slices.specs.Bytes.{zeros};
 ghost use Rattle.crc32.specs.Crc.{run, bits_of, bits};
 ghost use Rattle.crc32_half.specs.Half.{half_table};
+ghost use Rattle.std.proofs.Common.{rules};
 
 use table::HALVES;
+
+// A table by which `width` bytes go into the register at once: a part of it for each of them.
+pub trait ByteTable: Copy {
+    ghost width: { ℕ };
+
+    fn width(self) -> usize
+        ensures { result ≡ width };
+
+    // What the byte b adds, with what the register crc has at its place: through k more bytes.
+    fn byte_share(self, k: usize, crc: u32, b: u8) -> u32
+        requires { k < width }
+        ensures { result ≡ run (bit_xor crc b % 256) (bits (zeros (k + 1))) };
+
+    ghost width_fits: { (8 ≤ width) × (width ≤ 16) };
+}
+
+// The half table, lent.
+#[derive(Clone, Copy)]
+pub struct HalfTable<'a> {
+    entries: &'a [u32],
+    ghost right: { entries.now ≡ half_table },
+}
+
+impl<'a> HalfTable<'a> {
+    pub fn new(entries: &'a [u32]) -> Self
+        requires { entries.now ≡ half_table }
+        ensures { result.entries.now ≡ entries.now }
+    {
+        HalfTable { entries }
+    }
+}
+
+impl ByteTable for HalfTable<'_> {
+    ghost width = { 8 };
+
+    fn width(self) -> usize {
+        8
+    }
+
+    // By the two halves' entries of part k.
+    fn byte_share(self, k: usize, crc: u32, b: u8) -> u32 {
+        let x = crc ^ (b as u32);
+        let low = (x % 16) as usize;
+        let high = (x / 16 % 16) as usize;
+        self.entries[k * 32 + low] ^ self.entries[k * 32 + 16 + high]
+    }
+
+    ghost width_fits = { Prim.search rules };
+}
 
 // The constant, which is the list that the bitwise rule gives.
 pub fn half_table() -> [u32; 256]
@@ -22,59 +72,60 @@ pub fn half_table() -> [u32; 256]
 }
 
 // The register after the eight bits of one byte, lowest first.
-pub fn byte_by_halves(t: &[u32], crc: u32, b: u8) -> u32
-    requires { t.now ≡ half_table }
+// Kept: no plainer, here and at `by_ones`, as one with `next` and `by_bytes` of crc32: the byte table has one part, and the law asks for eight of a ByteTable.
+pub fn next_by<T: ByteTable>(t: T, crc: u32, b: u8) -> u32
     ensures { result ≡ run crc (bits_of 8 b) }
 {
-    byte_share(t, 0, crc, b) ^ (crc >> 8)
+    t.byte_share(0, crc, b) ^ (crc >> 8)
 }
 
-// The register after all bytes of a slice: eight a turn, and the last ones one by one.
-pub fn by_halves(t: &[u32], crc: u32, data: &[u8]) -> u32
-    requires { t.now ≡ half_table }
+// The register after all bytes of a slice: `width` a turn, then eight, and the last ones one by one. The widths are written at the calls, so that each has a
+// loop of its own.
+pub fn by_table<T: ByteTable>(t: T, crc: u32, data: &[u8]) -> u32
+    ensures { result ≡ run crc (bits «data».now) }
+{
+    let width = t.width();
+    if width == 8 {
+        return by_turns(t, 8, crc, data);
+    }
+    let (front, back) = data.split_at(data.len() / width * width);
+    let c = by_turns(t, width, crc, front);
+    by_turns(t, 8, c, back)
+}
+
+// All bytes of a slice, `width` a turn by as many parts, and the last ones one by one.
+#[inline(always)]
+fn by_turns<T: ByteTable>(t: T, width: usize, crc: u32, data: &[u8]) -> u32
+    requires { (8 ≤ width) × (width ≤ T.width) }
     ensures { result ≡ run crc (bits «data».now) }
 {
     let mut c = crc;
-    let mut i = 0;
-    while 8 <= data.len() - i {
-        c = eight(t, c, &data[i..i + 8]);
-        i += 8;
+    let mut rest = data;
+    while let Some((s, later)) = rest.split_at_checked(width) {
+        c = several(t, c, s);
+        rest = later;
     }
-    by_ones(t, c, &data[i..])
-}
-
-// What the byte b adds, with what the register crc has at its place: through k more bytes, by the two halves' entries of part k.
-fn byte_share(t: &[u32], k: usize, crc: u32, b: u8) -> u32
-    requires { (k < 8) × (t.now ≡ half_table) }
-    ensures { result ≡ run (bit_xor crc b % 256) (bits (zeros (k + 1))) }
-{
-    let x = crc ^ (b as u32);
-    let low = (x % 16) as usize;
-    let high = (x / 16 % 16) as usize;
-    t[k * 32 + low] ^ t[k * 32 + 16 + high]
+    by_ones(t, c, rest)
 }
 
 // The register after the bytes of a slice and k zero bytes: each byte by the part that is as far from the end.
-fn bytes_share(t: &[u32], crc: u32, s: &[u8], k: usize) -> u32
-    requires { (4 ≤ length s.now)
-        × (length s.now + k ≤ 8)
-        × (t.now ≡ half_table) }
+fn bytes_share<T: ByteTable>(t: T, crc: u32, s: &[u8], k: usize) -> u32
+    requires { (4 ≤ length s.now) × (length s.now + k ≤ T.width) }
     ensures { result ≡ run crc (bits (s.now ++ zeros k)) }
 {
     let mut r = 0;
     let mut c = crc;
-    let mut i = 0;
-    while i < s.len() {
-        r = r ^ byte_share(t, s.len() - i - 1 + k, c, s[i]);
-        c = c >> 8;
-        i += 1;
+    for (i, b) in s.iter().enumerate() {
+        r ^= t.byte_share(s.len() - i - 1 + k, c, *b);
+        c >>= 8;
     }
     r
 }
 
-// The register after eight bytes. Only the first four of them meet what is in it: the others need not wait for it, and go first.
-fn eight(t: &[u32], crc: u32, s: &[u8]) -> u32
-    requires { (length s.now ≡ 8) × (t.now ≡ half_table) }
+// The register after a slice's bytes. Only the first four of them meet what is in it: the others need not wait for it, and go first.
+#[inline(always)]
+pub fn several<T: ByteTable>(t: T, crc: u32, s: &[u8]) -> u32
+    requires { (8 ≤ length s.now) × (length s.now ≤ T.width) }
     ensures { result ≡ run crc (bits s.now) }
 {
     let last = bytes_share(t, 0, &s[4..], 0);
@@ -82,15 +133,12 @@ fn eight(t: &[u32], crc: u32, s: &[u8]) -> u32
 }
 
 // The register after all bytes of a slice, one a turn.
-fn by_ones(t: &[u32], crc: u32, data: &[u8]) -> u32
-    requires { t.now ≡ half_table }
+fn by_ones<T: ByteTable>(t: T, crc: u32, data: &[u8]) -> u32
     ensures { result ≡ run crc (bits «data».now) }
 {
     let mut c = crc;
-    let mut i = 0;
-    while i < data.len() {
-        c = byte_by_halves(t, c, data[i]);
-        i += 1;
+    for b in data {
+        c = next_by(t, c, *b);
     }
     c
 }

@@ -18,9 +18,8 @@ use Rattle.frame.specs.Block.{padding, blocks}
 use Rattle.frame.specs.declared.Reader.{Reader}
 use Rattle.frame.specs.declared.FrameType.{FrameType}
 use Rattle.frame.specs.declared.FrameRead.{FrameRead}
-use Rattle.frame.specs.declared.TypeByte.{TypeByte}
-use Rattle.frame.specs.declared.TypeByte.TheVariants.{Unknown as unknown}
-use Rattle.frame.specs.declared.FrameAnswer.TheVariants.{Corrupt as corrupt}
+use Rattle.std.specs.Prelude.{Option, None as unknown}
+use Rattle.frame.specs.Reader.{corrupt}
 use Rattle.frame.specs.declared.Corruption.TheVariants.{WrongChecksum as wrong_checksum, UnknownType as unknown_type}
 use Rattle.frame.specs.Reader.{place, judge, look, read_frame}
 use Rattle.frame.proofs.Tests.{le_or_lt}
@@ -45,7 +44,7 @@ module _ (log : List ℕ) (p : ℕ) (r : Reader) (a : At log p r) (t : FrameType
   read_headed rest e =
       reads_header log p r (at_arrives log p r a) (type_number t) sum xs rest four fits inside e
       (λ z. omega (arith, type_low t, zero_type sum (xs ++ rest) (length xs) (type_number t) four z))
-      ∙ ap₂ (λ (u : TypeByte) (v : Bool). judge false u true v ((p + padding p) / 32768) ((p + padding p) % 32768) (length xs)) (type_back t)
+      ∙ ap₂ (λ (u : Option FrameType) (v : Bool). judge false u true v ((p + padding p) / 32768) ((p + padding p) % 32768) (length xs)) (type_back t)
       (ne_eqb (crc32 (type_number t ∷ xs)) (le sum) told)
 
   pub behind_headed : (rest : List ℕ) → drop (p + padding p) log ≡ header sum (length xs) (type_number t) (xs ++ rest) → drop (p + padding p + 7 + length xs) log ≡ rest
@@ -91,7 +90,7 @@ module _ (log : List ℕ) (p : ℕ) (r : Reader) (a : At log p r) (w rest : List
   read_torn =
       (at_arrives log p r a).reads inside
       ∙ ap (look ((p + padding p) / 32768) ((p + padding p) % 32768)) (ap (λ (i : ℕ). drop i log) (split (p + padding p)) ∙ e)
-      ∙ ap₂ (λ (z : Bool) (u : TypeByte). judge z u (leb ((p + padding p) % 32768 + 7 + (header_of (w ++ rest)).len) 32768)
+      ∙ ap₂ (λ (z : Bool) (u : Option FrameType). judge z u (leb ((p + padding p) % 32768 + 7 + (header_of (w ++ rest)).len) 32768)
       (eqb (crc32 ((header_of (w ++ rest)).kind ∷ content_of (w ++ rest))) (header_of (w ++ rest)).checksum) ((p + padding p) / 32768) ((p + padding p) % 32768)
       (header_of (w ++ rest)).len)
       (refuted (all_zero (take 7 (w ++ rest))) (λ z. some (ap all_zero (sym (take_at w rest 7 seven)) ∙ z)))

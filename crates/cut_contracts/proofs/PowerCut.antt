@@ -21,9 +21,10 @@ use Rattle.calls.specs.Lost.{lost_bytes}
 use Rattle.calls.specs.Replay.{Outcome, refused, left, replayed_by, replay_of, outcome_queues, replay_records, replay_scratch}
 use Rattle.calls.specs.Machine.{Listed, Machine, Fed, machine, records_of, NoneLonger}
 use Rattle.calls.proofs.Done.{call_refused, same_state}
-use Rattle.read_step.specs.declared.ReplayAnswer.{ReplayAnswer}
-use Rattle.read_step.specs.declared.ReplayAnswer.TheVariants.{Replayed as replayed}
-use Rattle.contracts.specs.Promises.{Lent, state_of, ReplayKept, replay_answer_by, replay_answer}
+use Rattle.calls.specs.declared.Refusal.{Refusal as RefusalOf}
+use Rattle.std.specs.Prelude.{Result, Ok, Err}
+use Rattle.read_step.specs.declared.Replayed.{Replayed as ReplayedAt}
+use Rattle.contracts.specs.Promises.{replayed, Lent, state_of, ReplayKept, replay_answer_by, replay_answer}
 use Rattle.contracts.specs.Run.{Run}
 use Rattle.contracts.specs.Demands.{Gives}
 use Rattle.contracts.proofs.Runs.{call_means, run_means, call_still}
@@ -45,7 +46,7 @@ use Rattle.cut_contracts.specs.Claims.{Wrote, cut_lent, Opened, Since, none, cal
 -- ---- what replay's contract says
 
 -- in memory of these sizes
-gives_at : (log scratch scratch' : List ℕ) (m m' : Memory) (ks ks' : List ℕ) (a : ReplayAnswer) (c : Capacities) (limit : ℕ) (qs : List Queue)
+gives_at : (log scratch scratch' : List ℕ) (m m' : Memory) (ks ks' : List ℕ) (a : Result ReplayedAt RefusalOf) (c : Capacities) (limit : ℕ) (qs : List Queue)
     → length m.entries ≤ length ks → ReplayKept log scratch m ks a scratch' m' ks' → length scratch ≡ limit → capacities m ≡ c → replay_of log c limit ≡ left qs → Gives a m m' qs
 gives_at log scratch scratch' m m' ks ks' a c limit qs long w n f e =
     replays_as log scratch scratch' m m' a (queues_kept log m ks (λ _. long) scratch scratch' m' a ks' w) (legal_by log c limit qs e (log_refused log) refl) (left qs) (ap₂ (replay_of log) f n ∙ e)
@@ -129,14 +130,18 @@ pub since_kept : {l₀ : Lent} {h : List Fed} {l : Lent} → Since l₀ h l → 
 since_kept none e = e
 since_kept (call {h} {l} k a l' r w) e = call_still l l' k a w (since_kept r e)
 
+abbrev resumed_in : Result ReplayedAt ℕ → ℕ
+resumed_in (Ok x) = x.resumed
+resumed_in (Err n) = 0
+
 told-left : (o : Outcome) (lost lost' bytes bytes' p p' : ℕ) → replayed lost bytes p ≡ replay_answer (replayed_by o lost' bytes' p') → (qs : List Queue) × (o ≡ left qs) × (p ≡ p')
 unfolding replayed_by replay_answer replay_answer_by
 told-left (refused n) lost lost' bytes bytes' p p' e = let z : ◌≡◌ {A = ℕ} 0 1 = cc in absurd (omega arith)
-told-left (left qs) lost lost' bytes bytes' p p' e = (qs, refl, cc)
+told-left (left qs) lost lost' bytes bytes' p p' e = (qs, refl, ap resumed_in e)
 
 module _ (log scratch : List ℕ) (m : Memory) (ks : List ℕ) (l₀ : Lent) (o : Opened log scratch m ks l₀) where
   long_opened : length m.entries ≤ length ks
-  long_opened = replayed_long log scratch l₀.scratch m l₀.memory ks l₀.largest o.lost o.lost_bytes l₀.place o.kept
+  long_opened = replayed_long log scratch l₀.scratch m l₀.memory ks l₀.largest _ o.kept
 
   inner : QueuesReplayed log scratch m (replayed o.lost o.lost_bytes l₀.place) l₀.scratch l₀.memory
   inner = queues_kept log m ks (λ _. long_opened) scratch l₀.scratch l₀.memory (replayed o.lost o.lost_bytes l₀.place) l₀.largest o.kept

@@ -1,7 +1,7 @@
 -- Claim.
 -- Power lost during the record that a call writes, over the lent memory. Each claim is proved in proofs/ under its name in snake case.
 -- Assumes nothing.
-use Rattle.std.specs.Prelude.{◌≡◌, List, [], ◌∷◌, ◌++◌, map, ℕ, ◌≤◌, length, take, drop}
+use Rattle.std.specs.Prelude.{Result, ◌≡◌, List, [], ◌∷◌, ◌++◌, map, ℕ, ◌≤◌, length, take, drop}
 use Rattle.frame.specs.Block.{blocks}
 use Rattle.frame.specs.Reader.{fresh}
 use Rattle.record.specs.Record.{Record}
@@ -11,9 +11,9 @@ use Rattle.calls.specs.Reading.{gave_record, gave_end}
 use Rattle.calls.specs.Reading.{ReadAnswer as Given}
 use Rattle.calls.specs.Replay.{replay_records}
 use Rattle.calls.specs.Machine.{Listed, Fed, machine_call, machine, was_refused, records_of, NoneLonger}
-use Rattle.read_step.specs.declared.ReplayAnswer.{ReplayAnswer}
-use Rattle.read_step.specs.declared.ReplayAnswer.TheVariants.{Replayed as replayed}
-use Rattle.contracts.specs.Promises.{Lent, CallKept, ReplayKept}
+use Rattle.calls.specs.declared.Refusal.{Refusal as RefusalOf}
+use Rattle.read_step.specs.declared.Replayed.{Replayed as ReplayedAt}
+use Rattle.contracts.specs.Promises.{replayed, Lent, CallKept, ReplayKept}
 use Rattle.contracts.specs.Run.{Run, Reads}
 use Rattle.contracts.specs.Demands.{Gives, ReplaysAs}
 use Rattle.cut.specs.Cut.{Unfit, Left, left}
@@ -52,14 +52,14 @@ ReadsAs log limit given = (scratch : List ℕ) (gs : List Given) → length scra
 
 -- every replay of this log in memory of the sizes of m₀, with a further table that is long enough, is not refused and gives the queues that m₀ means
 abbrev pub ReplayGives : List ℕ → ℕ → Memory → Type 0
-ReplayGives log limit m₀ = (scratch scratch' : List ℕ) (m m' : Memory) (ks ks' : List ℕ) (a : ReplayAnswer) → length scratch ≡ limit → capacities m ≡ capacities m₀
+ReplayGives log limit m₀ = (scratch scratch' : List ℕ) (m m' : Memory) (ks ks' : List ℕ) (a : Result ReplayedAt RefusalOf) → length scratch ≡ limit → capacities m ≡ capacities m₀
     → length m.entries ≤ length ks → ReplayKept log scratch m ks a scratch' m' ks' → Gives a m m' (meaning m₀)
 
 -- "reading gives all earlier records in order, the last one too if all its frames count as stored, at most one corruption answer, and no other record"; replay, whatever
 -- memory is lent with a further table that is long enough, gives what these records give, and in memory of the same sizes the queues before the call, or after it where all is stored
 pub record AfterCut (l l' : Lent) (before : List Record) (r : Record) (x : Left) (cut : List ℕ) (limit : ℕ) : Type 0 where
   pub reading : ReadsAs cut limit (map gave_record before ++ (cut_answered x r ++ (gave_end ∷ [])))
-  pub replay : (scratch scratch' : List ℕ) (m m' : Memory) (ks ks' : List ℕ) (a : ReplayAnswer) → length scratch ≡ limit → length m.entries ≤ length ks
+  pub replay : (scratch scratch' : List ℕ) (m m' : Memory) (ks ks' : List ℕ) (a : Result ReplayedAt RefusalOf) → length scratch ≡ limit → length m.entries ≤ length ks
       → ReplayKept cut scratch m ks a scratch' m' ks'
       → ReplaysAs (replay_records (capacities m) [] (before ++ kept_of x r)) a m m'
   pub replay_before : kept_of x r ≡ [] → ReplayGives cut limit l.memory

@@ -1,7 +1,6 @@
 -- From the contracts of replay and of the copy to what becomes of a card.
 -- Assumes nothing.
 use mathlib.Core.Path.{◌≡◌, refl, sym, ap, ap₂, subst, ◌∙◌}
-use mathlib.Core.Logic.{◌⊎◌, inl, inr}
 use mathlib.Core.Bool.{Bool, true, false, cond}
 use mathlib.Core.List.{List}
 use Prim.Native.Nat.{ℕ, zero, suc, ◌≤◌}
@@ -13,40 +12,46 @@ use Rattle.queues.specs.Queues.{Queue}
 use Rattle.queues.specs.Layout.{Memory, capacities, Leaves}
 use Rattle.queues.proofs.Both.{never}
 use Rattle.calls.specs.Refusals.{refuse_if, first_refusal, log_refused}
-use Rattle.calls.specs.Replay.{Outcome, refused, left, Replayed, replay_of, replayed_by, replay_call, outcome_queues, replay_scratch}
+use Rattle.calls.specs.Replay.{Outcome, refused, left, Replayed as Came, replay_of, replayed_by, replay_call, outcome_queues, replay_scratch}
 use Rattle.calls.proofs.Numbers.{replay_never_six}
 use Rattle.largest.specs.Table.{arranged_with}
-use Rattle.read_step.specs.declared.ReplayAnswer.{ReplayAnswer}
-use Rattle.read_step.specs.declared.ReplayAnswer.TheVariants.{Replayed as replayed, Refused as replay_refused}
+use Rattle.read_step.specs.declared.Replayed.{Replayed}
+use Rattle.calls.specs.declared.Refusal.{Refusal}
+use Rattle.calls.specs.Refused.{refusal_number, numbered}
+use Rattle.calls.proofs.Refused.{refusal_some}
 use Rattle.contracts.specs.Promises.{replay_answer_by, replay_answer, table_short, replay_refusals, replayed_with, replay_lent, ReplayKept}
 use Rattle.contracts.specs.Turning.{QueuesReplayed}
 use Rattle.contracts.proofs.ReplayTable.{queues_kept, replayed_long, replay_arranged}
 use Rattle.contracts.proofs.Demands.{replays_as, legal_by}
 use Rattle.copy_records.specs.Copy.{CopyLent, lent_of, copy_refusal, copied_by, copy_of}
 use Rattle.copy_records.specs.Typed.{QueuesTyped}
-use Rattle.copy_records.proofs.Left.{copy_meets}
 use Rattle.copy_records.proofs.Memory.{memory_typed}
-use Rattle.copy_write.specs.declared.CopyAnswer.{CopyAnswer}
-use Rattle.copy_write.specs.declared.CopyAnswer.TheVariants.{Copied as copy_done, Refused as copy_refused}
-use Rattle.copy_contracts.specs.Promises.{copy_numbers, CopyKept}
+use Rattle.copy_contracts.specs.Promises.{CopyNumbers, copy_numbers, CopyKept}
+use Rattle.abi_largest.specs.Numbers.{numbers}
+use Rattle.abi_call.specs.OnBytes.{memory_bytes}
+use Rattle.abi_tables.specs.Tables.{memory_in}
 use Rattle.std.specs.Prelude.{Result}
 use Rattle.cutdown_card.specs.declared.NotCut.{NotCut}
-use Rattle.std.specs.Prelude.Result.{Err}
+use Rattle.std.specs.Prelude.Result.{Ok, Err}
 use Rattle.cutdown_card.specs.declared.NotCut.TheVariants.{Refused}
-use Rattle.cutdown_card.specs.Cutdown.{lent_for, cut_by, cut_into, answered_by, CutTyped}
+use Rattle.cutdown_card.specs.Cutdown.{lent_for, cut_by, cut_into, by_number, cut_numbered, answered_by, CutTyped}
 use Rattle.cutdown_card.specs.Kept.{copied_as, into_by, Into}
+
+-- an answer with the number of its refusal
+abbrev as_number : Result Replayed Refusal → Result Replayed ℕ
+as_number a = numbered a
 
 -- ---- what an answer of replay says of its outcome
 
-outcome_refused : (o : Outcome) (lost bytes p k : ℕ) → replay_refused k ≡ replay_answer_by o lost bytes p → o ≡ refused k
+outcome_refused : (o : Outcome) (lost bytes p k : ℕ) → Err k ≡ replay_answer_by o lost bytes p → o ≡ refused k
 unfolding replay_answer_by
 outcome_refused (refused n) lost bytes p k e = cc
 outcome_refused (left qs) lost bytes p k e = never (cc)
 
-outcome_left : (o : Outcome) (lost bytes p i b j : ℕ) → replayed i b j ≡ replay_answer_by o lost bytes p → o ≡ left (outcome_queues o)
+outcome_left : (o : Outcome) (lost bytes p : ℕ) (y : Replayed) → Ok y ≡ replay_answer_by o lost bytes p → o ≡ left (outcome_queues o)
 unfolding replay_answer_by outcome_queues
-outcome_left (refused n) lost bytes p i b j e = never (cc)
-outcome_left (left qs) lost bytes p i b j e = refl
+outcome_left (refused n) lost bytes p y e = never (cc)
+outcome_left (left qs) lost bytes p y e = refl
 
 -- ---- with a further table that is long enough replay comes to what it comes to without it
 
@@ -59,7 +64,7 @@ pub outcome_long : (log : List ℕ) (limit : ℕ) (m : Memory) (ks : List ℕ) �
 unfolding replay_refusals first_refusal refuse_if table_short replayed_with replay_call
 outcome_long log limit m ks long = on (log_refused log) refl
   where
-    x : Replayed
+    x : Came
     x = replay_call log (capacities m) limit
 
     on : (b : Bool) → log_refused log ≡ b → (replay_lent log limit m ks).outcome ≡ replay_of log (capacities m) limit
@@ -70,38 +75,25 @@ outcome_long log limit m ks long = on (log_refused log) refl
 
 -- ---- what an answer of the copy says of its refusal
 
--- a copy never answers the number that stands for none
-not_99 : (s : CopyLent) → copy_refusal s ≡ 99 → ◌≡◌ {A = ℕ} 0 1
-not_99 s e = on (copy_meets s)
-  where
-    on : (copy_refusal s ≡ 0) ⊎ ((copy_refusal s ≡ 1) ⊎ ((copy_refusal s ≡ 6) ⊎ ((copy_refusal s ≡ 11) ⊎ (copy_refusal s ≡ 15)))) → ◌≡◌ {A = ℕ} 0 1
-    on (inl h) = absurd (omega (arith, e, h))
-    on (inr (inl h)) = absurd (omega (arith, e, h))
-    on (inr (inr (inl h))) = absurd (omega (arith, e, h))
-    on (inr (inr (inr (inl h)))) = absurd (omega (arith, e, h))
-    on (inr (inr (inr (inr h)))) = absurd (omega (arith, e, h))
-
 -- what a copy that is refused by n, 0 where it is not, comes to
 pub record By (n : ℕ) (qs : List Queue) (target : List ℕ) (r : Result ℕ NotCut) (target' : List ℕ) : Type 0 where
   pub typed : CutTyped (cut_by n qs)
-  pub answer : r ≡ answered_by (length target) (cut_by n qs)
+  pub answer : cut_numbered r ≡ answered_by (length target) (cut_by n qs)
   pub target_left : target' ≡ into_by target (cut_by n qs)
 
 module _ (target : List ℕ) (qs : List Queue) (limit : ℕ) (target' : List ℕ) (t : QueuesTyped qs) where
   abbrev lent : CopyLent
   lent = lent_for target qs limit
 
-  by_refusal : (n : ℕ) → copy_refusal lent ≡ n → (c : CopyAnswer) → (copy_numbers c).refusal ≡ (copied_by n lent).refusal → target' ≡ (copied_by n lent).target
+  by_refusal : (n : ℕ) → copy_refusal lent ≡ n → (c : Result ℕ Refusal) → (copy_numbers c).refusal ≡ (copied_by n lent).refusal → target' ≡ (copied_by n lent).target
       → By n qs target (copied_as c (length target)) target'
-  unfolding copy_numbers copied_by copied_as cut_by answered_by into_by
-  by_refusal zero e (copy_done end) h w = record { typed = t; answer = refl; target_left = w }
-  by_refusal zero e (copy_refused zero) h w = absurd (omega (arith, h))
-  by_refusal zero e (copy_refused (suc k)) h w = absurd (omega (arith, h))
-  by_refusal (suc n) e (copy_done end) h w = absurd (omega (arith, h))
-  by_refusal (suc n) e (copy_refused zero) h w = never (not_99 lent (e ∙ sym h))
-  by_refusal (suc n) e (copy_refused (suc k)) h w = record { typed = tt; answer = ap (λ (n : ℕ). Err (Refused n)) h; target_left = w }
+  unfolding copy_numbers copied_by copied_as cut_by cut_numbered answered_by into_by
+  by_refusal zero e (Ok end) h w = record { typed = t; answer = refl; target_left = w }
+  by_refusal zero e (Err r) h w = absurd (omega (arith, h, refusal_some r))
+  by_refusal (suc n) e (Ok end) h w = absurd (omega (arith, h))
+  by_refusal (suc n) e (Err r) h w = record { typed = tt; answer = ap (λ (n : ℕ). Err (by_number n)) h; target_left = w }
 
-  pub into_left : (c : CopyAnswer) → (copy_numbers c).refusal ≡ (copy_of lent).refusal → target' ≡ (copy_of lent).target → Into (left qs) limit target (copied_as c (length target)) target'
+  pub into_left : (c : Result ℕ Refusal) → (copy_numbers c).refusal ≡ (copy_of lent).refusal → target' ≡ (copy_of lent).target → Into (left qs) limit target (copied_as c (length target)) target'
   unfolding copy_of cut_into
   into_left c h w =
       let b = by_refusal (copy_refusal lent) refl c h w in
@@ -109,22 +101,22 @@ module _ (target : List ℕ) (qs : List Queue) (limit : ℕ) (target' : List ℕ
 
 -- ---- over the lent memory
 
-module _ (card scratch scratch' : List ℕ) (m m' : Memory) (ks ks' : List ℕ) (a : ReplayAnswer) (w : ReplayKept card scratch m ks a scratch' m' ks') (target : List ℕ) where
-  abbrev came : Replayed
+module _ (card scratch scratch' : List ℕ) (m m' : Memory) (ks ks' : List ℕ) (a : Result Replayed Refusal) (w : ReplayKept card scratch m ks a scratch' m' ks') (target : List ℕ) where
+  abbrev came : Came
   came = replay_lent card (length scratch) m ks
 
-  answers : a ≡ replay_answer_by came.outcome came.lost came.lost_bytes came.resumed
+  answers : numbered a ≡ replay_answer_by came.outcome came.lost came.lost_bytes came.resumed
   unfolding replay_answer
   answers = w.answer
 
-  pub into_refused : (k : ℕ) → a ≡ replay_refused k → Into came.outcome (length scratch) target (Err (Refused k)) target
-  unfolding cut_into answered_by into_by
-  into_refused k e =
-      subst (λ (o : Outcome). Into o (length scratch) target (Err (Refused k)) target)
-      (sym (outcome_refused came.outcome came.lost came.lost_bytes came.resumed k (sym e ∙ answers)))
+  pub into_refused : (r : Refusal) → a ≡ Err r → Into came.outcome (length scratch) target (Err (Refused r)) target
+  unfolding cut_into cut_numbered answered_by into_by
+  into_refused r e =
+      subst (λ (o : Outcome). Into o (length scratch) target (Err (Refused r)) target)
+      (sym (outcome_refused came.outcome came.lost came.lost_bytes came.resumed (refusal_number r) (sym (ap as_number e) ∙ answers)))
       (record { typed = tt; answer = refl; target_left = refl })
 
-  module _ (i b j : ℕ) (e : a ≡ replayed i b j) where
+  module _ (y : Replayed) (e : a ≡ Ok y) where
     abbrev outcome : Outcome
     outcome = replay_of card (capacities m) (length scratch)
 
@@ -133,9 +125,9 @@ module _ (card scratch scratch' : List ℕ) (m m' : Memory) (ks ks' : List ℕ) 
 
     -- replay was not refused 6
     long : length m.entries ≤ length ks
-    long = replayed_long card scratch scratch' m m' ks ks' i b j (subst (λ (x : ReplayAnswer). ReplayKept card scratch m ks x scratch' m' ks') e w)
+    long = replayed_long card scratch scratch' m m' ks ks' y (subst (λ (x : Result Replayed Refusal). ReplayKept card scratch m ks x scratch' m' ks') e w)
 
-    kept : QueuesReplayed card scratch m a scratch' m'
+    kept : QueuesReplayed card scratch m (numbered a) scratch' m'
     kept = queues_kept card m ks (λ _. long) scratch scratch' m' a ks' w
 
     came_to : came.outcome ≡ outcome
@@ -144,7 +136,7 @@ module _ (card scratch scratch' : List ℕ) (m m' : Memory) (ks ks' : List ℕ) 
     outcome_is : outcome ≡ left queues_left
     outcome_is =
         subst (λ (o : Outcome). o ≡ left (outcome_queues o)) came_to
-        (outcome_left came.outcome came.lost came.lost_bytes came.resumed i b j (sym e ∙ answers))
+        (outcome_left came.outcome came.lost came.lost_bytes came.resumed y (sym (ap as_number e) ∙ answers))
 
     legal : log_refused card ≡ false
     legal = legal_by card (capacities m) (length scratch) queues_left outcome_is (log_refused card) refl
@@ -163,7 +155,7 @@ module _ (card scratch scratch' : List ℕ) (m m' : Memory) (ks ks' : List ℕ) 
         ∙ ap₂ (λ (x : Bool) (s : List ℕ). record { target = target; queues = queues_left; arranged = x; scratch = s })
         (replay_arranged card scratch scratch' m m' ks ks' a legal long w) scratch_zero
 
-    pub into_copied : (c : CopyAnswer) (target' scratch'' : List ℕ) → CopyKept target scratch' m' ks' (copy_numbers c) target' scratch''
+    pub into_copied : (c : Result ℕ Refusal) (target' scratch'' : List ℕ) → CopyKept target scratch' m' ks' (copy_numbers c) target' scratch''
         → Into came.outcome (length scratch) target (copied_as c (length target)) target'
     into_copied c target' scratch'' k =
         subst (λ (o : Outcome). Into o (length scratch) target (copied_as c (length target)) target') (sym (came_to ∙ outcome_is))
@@ -172,9 +164,20 @@ module _ (card scratch scratch' : List ℕ) (m m' : Memory) (ks ks' : List ℕ) 
         (k.target_left ∙ ap (λ (s : CopyLent). (copy_of s).target) lent_is))
 
 -- the same, as the code hands it on
-pub copied_as_lem : (card scratch scratch' : List ℕ) (m m' : Memory) (ks ks' : List ℕ) (a : ReplayAnswer) → ReplayKept card scratch m ks a scratch' m' ks' → (target : List ℕ) (i b j : ℕ) → a ≡ replayed i b j
-    → (c : CopyAnswer) (target' scratch'' : List ℕ) → CopyKept target scratch' m' ks' (copy_numbers c) target' scratch'' → {r : Result ℕ NotCut} {n : ℕ} → n ≡ length target → r ≡ copied_as c n
+pub copied_as_lem : (card scratch scratch' : List ℕ) (m m' : Memory) (ks ks' : List ℕ) (a : Result Replayed Refusal) → ReplayKept card scratch m ks a scratch' m' ks' → (target : List ℕ) (y : Replayed) → a ≡ Ok y
+    → (c : Result ℕ Refusal) (target' scratch'' : List ℕ) → CopyKept target scratch' m' ks' (copy_numbers c) target' scratch'' → {r : Result ℕ NotCut} {n : ℕ} → n ≡ length target → r ≡ copied_as c n
     → Into (replay_lent card (length scratch) m ks).outcome (length scratch) target r target'
-copied_as_lem card scratch scratch' m m' ks ks' a w target i b j e c target' scratch'' k l h =
+copied_as_lem card scratch scratch' m m' ks ks' a w target y e c target' scratch'' k l h =
     subst (λ (x : Result ℕ NotCut). Into (replay_lent card (length scratch) m ks).outcome (length scratch) target x target') (sym (h ∙ ap (copied_as c) l))
-    (into_copied card scratch scratch' m m' ks ks' a w target i b j e c target' scratch'' k)
+    (into_copied card scratch scratch' m m' ks ks' a w target y e c target' scratch'' k)
+
+-- a copy of the memory looked at is one of the memory left
+pub kept_held : {ns ns' ps ps' es es' ks ks' t t' target target' scratch scratch' : List ℕ} {a : CopyNumbers} → ns' ≡ ns → ps' ≡ ps → es' ≡ es → ks' ≡ ks → t' ≡ t
+    → CopyKept target scratch (memory_in (memory_bytes ns' ps' es' ks' t')) (numbers ks') a target' scratch'
+    → CopyKept target scratch (memory_in (memory_bytes ns ps es ks t)) (numbers ks) a target' scratch'
+kept_held {ns} {ns'} {ps} {ps'} {es} {es'} {ks} {ks'} {t} {t'} {target} {target'} {scratch} {scratch'} {a} b c d e f w =
+    subst (λ x. CopyKept target scratch (memory_in (memory_bytes ns ps es ks x)) (numbers ks) a target' scratch') f
+    (subst (λ x. CopyKept target scratch (memory_in (memory_bytes ns ps es x t')) (numbers x) a target' scratch') e
+    (subst (λ x. CopyKept target scratch (memory_in (memory_bytes ns ps x ks' t')) (numbers ks') a target' scratch') d
+    (subst (λ x. CopyKept target scratch (memory_in (memory_bytes ns x es' ks' t')) (numbers ks') a target' scratch') c
+    (subst (λ x. CopyKept target scratch (memory_in (memory_bytes x ps' es' ks' t')) (numbers ks') a target' scratch') b w))))

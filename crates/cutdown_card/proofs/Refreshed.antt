@@ -36,8 +36,7 @@ use Rattle.readout_text.proofs.Sizes.{just_sized}
 use Rattle.std.specs.Prelude.{Result}
 use Rattle.cutdown_card.specs.declared.NotCut.{NotCut}
 use Rattle.std.specs.Prelude.Result.{Ok, Err}
-use Rattle.cutdown_card.specs.declared.NotCut.TheVariants.{Refused, NoRoom}
-use Rattle.cutdown_card.specs.Cutdown.{Cut, cut_refused, cut_to, lent_for, cut_by, cut_into, blank_card, cut_down, fresh_card, short_for, answered_by, cut_answer, written_by, cut_left, CutTyped, CutKept}
+use Rattle.cutdown_card.specs.Cutdown.{Cut, cut_refused, cut_to, lent_for, cut_by, cut_into, blank_card, cut_down, fresh_card, short_for, Why, by_number, no_room, cut_numbered, answered_by, cut_answer, written_by, cut_left, CutTyped, CutKept}
 use Rattle.cutdown_card.specs.Claims.{Refreshed, CutdownRefreshes, CutdownInside}
 use Rattle.cutdown_card.proofs.Sizes.{put_first, fresh_is, fresh_long, was_sized, was_done, sized_is, sized_long}
 
@@ -131,17 +130,17 @@ module _ (card : List ℕ) (qs : List Queue) (b : Bytes card) (t : QueuesTyped q
 -- ---- from the contract
 
 module _ (card out out' : List ℕ) (n : ℕ) (w : CutKept card out (Ok n) out') where
-  short_by : (x : Bool) → short_for card (length out) ≡ x → Ok n ≡ cond x (Err NoRoom) (answered_by (blocks card * 32768) (cut_down card)) → short_for card (length out) ≡ false
+  short_by : (x : Bool) → short_for card (length out) ≡ x → Ok n ≡ cond x (Err no_room) (answered_by (blocks card * 32768) (cut_down card)) → short_for card (length out) ≡ false
   short_by true e h = never (cc)
   short_by false e h = e
 
   had_room : short_for card (length out) ≡ false
-  unfolding cut_answer
+  unfolding cut_answer cut_numbered
   had_room = short_by (short_for card (length out)) refl w.answer
 
   answer_is : Ok n ≡ answered_by (blocks card * 32768) (cut_down card)
-  unfolding cut_answer
-  answer_is = w.answer ∙ ap (λ (x : Bool). cond x (Err NoRoom) (answered_by (blocks card * 32768) (cut_down card))) had_room
+  unfolding cut_answer cut_numbered
+  answer_is = w.answer ∙ ap (λ (x : Bool). cond x (Err no_room) (answered_by (blocks card * 32768) (cut_down card))) had_room
 
   left_is : out' ≡ written_by card out (cut_down card)
   unfolding cut_left
@@ -157,7 +156,7 @@ module _ (card out out' : List ℕ) (n : ℕ) (w : CutKept card out (Ok n) out')
   stands_on : (qs : List Queue) → cut_down card ≡ cut_to qs → Stands qs
   unfolding answered_by written_by
   stands_on qs d =
-      let e : ◌≡◌ {A = Result ℕ NotCut} (Ok n) (Ok (blocks card * 32768)) = answer_is ∙ ap (answered_by (blocks card * 32768)) d in
+      let e : ◌≡◌ {A = Result ℕ Why} (Ok n) (Ok (blocks card * 32768)) = answer_is ∙ ap (answered_by (blocks card * 32768)) d in
       let f : n ≡ blocks card * 32768 = cc in
       record {
         down = d;
@@ -168,7 +167,7 @@ module _ (card out out' : List ℕ) (n : ℕ) (w : CutKept card out (Ok n) out')
 
   stands_by : {A : Type 0} → ((qs : List Queue) → Stands qs → A) → (c : Cut) → cut_down card ≡ c → A
   unfolding answered_by
-  stands_by go (cut_refused k) d = let e : ◌≡◌ {A = Result ℕ NotCut} (Ok n) (Err (Refused k)) = answer_is ∙ ap (answered_by (blocks card * 32768)) d in never (cc)
+  stands_by go (cut_refused k) d = let e : ◌≡◌ {A = Result ℕ Why} (Ok n) (Err (by_number k)) = answer_is ∙ ap (answered_by (blocks card * 32768)) d in never (cc)
   stands_by go (cut_to qs) d = go qs (stands_on qs d)
 
 pub cutdown_refreshes : CutdownRefreshes

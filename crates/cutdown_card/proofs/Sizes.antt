@@ -15,6 +15,7 @@ use Rattle.recordlog.specs.Laid.{laid}
 use Rattle.queues.specs.Queues.{Queue, Capacities}
 use Rattle.queues.specs.Layout.{capacities, queue_room, at_most64}
 use Rattle.queues.proofs.Both.{never}
+use Rattle.calls.specs.declared.Refusal.TheVariants.{LogSize}
 use Rattle.calls.specs.Refusals.{refuse_if, first_refusal, log_refused}
 use Rattle.calls.specs.Replay.{Outcome, refused, left, replay_of}
 use Rattle.calls.proofs.Chain.{or_left, or_right}
@@ -33,7 +34,7 @@ use Rattle.std.specs.Prelude.{Result}
 use Rattle.cutdown_card.specs.declared.NotCut.{NotCut}
 use Rattle.std.specs.Prelude.Result.{Err}
 use Rattle.cutdown_card.specs.declared.NotCut.TheVariants.{Refused, NoRoom}
-use Rattle.cutdown_card.specs.Cutdown.{Cut, cut_refused, cut_to, lent_for, cut_by, cut_into, blank_card, cut_down, fresh_card, short_for, answered_by, cut_answer, written_by, cut_left, CutTyped, CutKept}
+use Rattle.cutdown_card.specs.Cutdown.{Cut, cut_refused, cut_to, lent_for, cut_by, cut_into, blank_card, cut_down, fresh_card, short_for, no_room, cut_numbered, answered_by, cut_answer, written_by, cut_left, CutTyped, CutKept}
 use Rattle.cutdown_card.specs.Kept.{into_by, Into, CutIntoKept, CutSizedKept}
 use Rattle.cutdown_card.specs.Claims.{CutdownHasRoom}
 use Rattle.cutdown_card.proofs.Into.{outcome_long}
@@ -177,24 +178,24 @@ cutdown_has_room card room h = on (not_sized card) refl
 -- ---- refused, or too short a buffer
 
 module _ (card out : List ℕ) where
-  unsized : not_sized card ≡ true → CutKept card out (Err (Refused 1)) out
-  unfolding short_for cut_down cut_answer cut_left answered_by written_by
+  unsized : not_sized card ≡ true → CutKept card out (Err (Refused LogSize)) out
+  unfolding short_for cut_down cut_answer cut_left answered_by written_by cut_numbered
   unsized e =
       record {
         typed = λ h. subst (λ (b : Bool). CutTyped (cond b (cut_refused 1) (cut_into (blank_card card) readout_scratch (replay_of card readout_room readout_scratch)))) (sym e) tt;
         answer =
-            sym (ap (λ (b : Bool). cond (not b && ltb (length out) (blocks card * 32768)) (Err NoRoom)
+            sym (ap (λ (b : Bool). cond (not b && ltb (length out) (blocks card * 32768)) (Err no_room)
             (answered_by (blocks card * 32768) (cond b (cut_refused 1) (cut_into (blank_card card) readout_scratch (replay_of card readout_room readout_scratch))))) e);
         buffer_left =
             sym (ap (λ (b : Bool). cond (not b && ltb (length out) (blocks card * 32768)) out
             (written_by card out (cond b (cut_refused 1) (cut_into (blank_card card) readout_scratch (replay_of card readout_room readout_scratch))))) e);
       }
 
-  pub too_short : length card < 32768 → CutKept card out (Err (Refused 1)) out
+  pub too_short : length card < 32768 → CutKept card out (Err (Refused LogSize)) out
   unfolding not_sized
   too_short h = unsized (ap (λ (b : Bool). b || ltb 65536 (length card)) (lt-ltb (length card) 32768 h))
 
-  pub too_long_lem : 65536 < length card → CutKept card out (Err (Refused 1)) out
+  pub too_long_lem : 65536 < length card → CutKept card out (Err (Refused LogSize)) out
   unfolding not_sized
   too_long_lem h = unsized (ap₂ (λ (a b : Bool). a || b) (le-ltb (length card) 32768 (omega (arith, h))) (lt-ltb 65536 (length card) h))
 
@@ -203,12 +204,12 @@ module _ (card out : List ℕ) where
     sized = sized_is card h k
 
     pub no_room_lem : (n : ℕ) → n ≡ blocks card * 32768 → length out < n → CutKept card out (Err NoRoom) out
-    unfolding short_for cut_answer cut_left
+    unfolding short_for cut_answer cut_left cut_numbered
     no_room_lem n e l =
         let s : short_for card (length out) ≡ true = ap₂ (λ (b c : Bool). not b && c) sized (lt-ltb (length out) (blocks card * 32768) (omega (arith, e, l))) in
         record {
           typed = λ f. absurd (false≢true (sym f ∙ s));
-          answer = sym (ap (λ (b : Bool). cond b (Err NoRoom) (answered_by (blocks card * 32768) (cut_down card))) s);
+          answer = sym (ap (λ (b : Bool). cond b (Err no_room) (answered_by (blocks card * 32768) (cut_down card))) s);
           buffer_left = sym (ap (λ (b : Bool). cond b out (written_by card out (cut_down card))) s);
         }
 
@@ -247,7 +248,7 @@ module _ (card out : List ℕ) where
             typed = λ f. subst CutTyped same w.typed;
             answer =
                 w.answer ∙ ap₂ answered_by (length-take-le n out l ∙ e) same
-                ∙ sym (ap (λ (b : Bool). cond b (Err NoRoom) (answered_by (blocks card * 32768) (cut_down card))) fits);
+                ∙ sym (ap (λ (b : Bool). cond b (Err no_room) (answered_by (blocks card * 32768) (cut_down card))) fits);
             buffer_left =
                 ap (λ (x : List ℕ). x ++ drop n out) (w.target_left ∙ ap (into_by (take n out)) same) ∙ left_by_lem (cut_down card) refl
                 ∙ sym (ap (λ (b : Bool). cond b out (written_by card out (cut_down card))) fits);

@@ -6,6 +6,7 @@ use Rattle.slices.specs.Bytes.{zeros}
 use Rattle.slices.specs.Put.{put}
 use Rattle.frame.specs.Block.{blocks}
 use Rattle.queues.specs.Queues.{Queue}
+use Rattle.calls.specs.Refused.{refusal_number}
 use Rattle.calls.specs.Replay.{Outcome, refused, left, replay_of}
 use Rattle.copy_records.specs.Copy.{CopyLent, copy_refusal, copied}
 use Rattle.copy_records.specs.Typed.{QueuesTyped}
@@ -54,13 +55,24 @@ fresh_card card qs = copied (blank_card card) qs
 unfoldable pub short_for : List ℕ → ℕ → Bool
 short_for card room = not (not_sized card) && ltb room (blocks card * 32768)
 
+-- why there is none, with the number of a refusal
+pub data Why : Type 0 where
+  by_number : ℕ → Why
+  no_room : Why
+
+-- an answer with it
+unfoldable pub cut_numbered : Result ℕ NotCut → Result ℕ Why
+cut_numbered (Ok n) = Ok n
+cut_numbered (Err (Refused r)) = Err (by_number (refusal_number r))
+cut_numbered (Err NoRoom) = Err no_room
+
 -- the number of bytes written, or the refusal's number
-unfoldable pub answered_by : ℕ → Cut → Result ℕ NotCut
-answered_by n (cut_refused k) = Err (Refused k)
+unfoldable pub answered_by : ℕ → Cut → Result ℕ Why
+answered_by n (cut_refused k) = Err (by_number k)
 answered_by n (cut_to qs) = Ok n
 
-unfoldable pub cut_answer : List ℕ → ℕ → Result ℕ NotCut
-cut_answer card room = cond (short_for card room) (Err NoRoom) (answered_by (blocks card * 32768) (cut_down card))
+unfoldable pub cut_answer : List ℕ → ℕ → Result ℕ Why
+cut_answer card room = cond (short_for card room) (Err no_room) (answered_by (blocks card * 32768) (cut_down card))
 
 -- the fresh card at the buffer's start, or nothing
 unfoldable pub written_by : List ℕ → List ℕ → Cut → List ℕ
@@ -80,5 +92,5 @@ CutTyped (cut_to qs) = QueuesTyped qs
 -- A card and a buffer, the answer and the buffer left. `typed` is what the type of the payload memory says, where the card was replayed.
 pub record CutKept (card out : List ℕ) (r : Result ℕ NotCut) (out' : List ℕ) : Type 0 where
   pub typed : short_for card (length out) ≡ false → CutTyped (cut_down card)
-  pub answer : r ≡ cut_answer card (length out)
+  pub answer : cut_numbered r ≡ cut_answer card (length out)
   pub buffer_left : out' ≡ cut_left card out

@@ -5,8 +5,7 @@ use Rattle.std.specs.Prelude.{◌≡◌, List, ℕ, length}
 use Rattle.calls.specs.Replay.{Outcome, replay_of}
 use Rattle.contracts.specs.Promises.{replay_lent}
 use Rattle.copy_records.specs.Copy.{copied}
-use Rattle.copy_write.specs.declared.CopyAnswer.{CopyAnswer}
-use Rattle.copy_write.specs.declared.CopyAnswer.TheVariants.{Copied as copy_done, Refused as copy_refused}
+use Rattle.calls.specs.declared.Refusal.{Refusal}
 use Rattle.abi_largest.specs.Numbers.{numbers}
 use Rattle.abi_call.specs.OnBytes.{MemoryBytes}
 use Rattle.abi_tables.specs.Tables.{memory_in}
@@ -15,11 +14,11 @@ use Rattle.std.specs.Prelude.{Result}
 use Rattle.cutdown_card.specs.declared.NotCut.{NotCut}
 use Rattle.std.specs.Prelude.Result.{Ok, Err}
 use Rattle.cutdown_card.specs.declared.NotCut.TheVariants.{Refused}
-use Rattle.cutdown_card.specs.Cutdown.{Cut, cut_refused, cut_to, cut_into, answered_by, CutTyped}
+use Rattle.cutdown_card.specs.Cutdown.{Cut, cut_refused, cut_to, cut_into, cut_numbered, answered_by, CutTyped}
 
-unfoldable pub copied_as : CopyAnswer → ℕ → Result ℕ NotCut
-copied_as (copy_done end) n = Ok n
-copied_as (copy_refused k) n = Err (Refused k)
+unfoldable pub copied_as : Result ℕ Refusal → ℕ → Result ℕ NotCut
+copied_as (Ok end) n = Ok n
+copied_as (Err r) n = Err (Refused r)
 
 -- the copy in the target, or the target as it was
 unfoldable pub into_by : List ℕ → Cut → List ℕ
@@ -29,7 +28,7 @@ into_by target (cut_to qs) = copied target qs
 -- what becomes of a card whose replay comes to an outcome, with a target and a scratch of `limit` bytes
 pub record Into (o : Outcome) (limit : ℕ) (target : List ℕ) (r : Result ℕ NotCut) (target' : List ℕ) : Type 0 where
   pub typed : CutTyped (cut_into target limit o)
-  pub answer : r ≡ answered_by (length target) (cut_into target limit o)
+  pub answer : cut_numbered r ≡ answered_by (length target) (cut_into target limit o)
   pub target_left : target' ≡ into_by target (cut_into target limit o)
 
 -- replay with the lent memory: 6 where the further table is shorter than the record table

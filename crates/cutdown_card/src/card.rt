@@ -5,8 +5,8 @@ ghost use Rattle.cutdown_card.specs.Kept.{CutSizedKept};
 
 use crate::NotCut;
 use crate::parts::cut_into;
-use calls::Refusal;
 use frame::Reader;
+use multi_record_log::{QueueMemory, Refusal};
 
 // Two blocks.
 const MAX_CARD_LEN: usize = 2 * Reader::BLOCK_NUM_BYTES;
@@ -21,16 +21,14 @@ fn cut_sized(card: &[u8], target: &mut [u8]) -> Result<usize, NotCut>
     let mut entries = [0u8; 24576];
     let mut largest = [0u8; 8192];
     let mut table = [0u8; 1568];
-    cut_into(
-        card,
-        &mut scratch,
-        &mut names,
-        &mut payloads,
-        &mut entries,
-        &mut largest,
-        &mut table,
-        target,
-    )
+    let mut memory = QueueMemory {
+        names: &mut names,
+        payloads: &mut payloads,
+        entries: &mut entries,
+        largest: &mut largest,
+        table: &mut table,
+    };
+    cut_into(card, &mut scratch, &mut memory, target)
 }
 
 // The fresh card at the start of the buffer; answers its length.
@@ -38,7 +36,7 @@ pub fn cut_down(card: &[u8], out: &mut [u8]) -> Result<usize, NotCut>
     ensures { CutKept card.now out.old result out.new }
 {
     if card.len() < Reader::BLOCK_NUM_BYTES || MAX_CARD_LEN < card.len() {
-        return Err(NotCut::Refused(Refusal::LOG_SIZE));
+        return Err(NotCut::Refused(Refusal::LogSize));
     }
     let len = card.len() / Reader::BLOCK_NUM_BYTES * Reader::BLOCK_NUM_BYTES;
     if out.len() < len {

@@ -3,22 +3,13 @@
 // and then nothing is printed, or, where the text itself could not be written, perhaps a part.
 #![tactic(auto)]
 
-use card_input::{fail, file_name, name_too_long, read_card};
+use card_input::{Stopped, fail, file_name, name_too_long, read_card, stop};
 use std::env::FillError;
 use std::fs;
 use std::io::{Error, Write};
 use std::rt::{Env, Files};
 
 const MAX_INPUT_LEN: usize = 65536;
-
-// Something failed, which was said on standard error.
-#[derive(Clone, Copy)]
-struct Stopped;
-
-fn stop<E: Write>(errors: &mut E, what: &[u8], error: Error) -> Stopped {
-    fail(errors, what, error);
-    Stopped
-}
 
 fn write_log<R: Files>(rt: &R, name: &[u8], log: &[u8]) -> Result<(), Error> {
     fs::write(rt, file_name(name)?, log)

@@ -2,14 +2,15 @@
 -- Assumes nothing.
 use mathlib.Core.Path.{◌≡◌, refl, sym, ap, ◌∙◌}
 use mathlib.Core.Bool.{Bool, false, cond}
-use mathlib.Core.List.{List, [], ◌∷◌, ◌++◌}
-use Prim.Native.Nat.{ℕ, suc, ◌-◌, ◌≤◌, ◌<◌}
+use mathlib.Core.List.{List, [], ◌∷◌, ◌++◌, append_assoc}
+use Prim.Native.Nat.{ℕ, ◌+◌, ◌≤◌, ◌<◌}
 use native.Mathlib.Omega.{arith}
 use lib.Dec.{eqb}
-use lib.ListN.{length, take, get_or}
-use lib.Seq.{take-suc}
+use lib.ListN.{length, take, drop, take-append-drop}
+use lib.Seq.{length-take-le}
+use Rattle.std.proofs.Math.Seq.{take-append_seam}
 use borrow.Author.Tests.{ne_eqb}
-use Rattle.drive_commands.specs.Commands.{trim_on, trimmed}
+use Rattle.drive_commands.specs.Commands.{trim_on, trimmed, name_in}
 
 -- ---- one byte at the end
 
@@ -32,22 +33,42 @@ trim_other (x ∷ xs) b e = ap (trim_on x) (trim_other xs b e) ∙ on_some x (xs
     some [] = omega arith
     some (y ∷ ys) = omega arith
 
--- ---- the first n bytes of the operands
+-- ---- what is left of a name while zeros at its end are cut off
 
-module _ (xs : List ℕ) where
-  last_of_lem : (n : ℕ) → 0 < n → n ≤ length xs → take n xs ≡ take (n - 1) xs ++ (get_or xs (n - 1) 0 ∷ [])
-  last_of_lem n h l =
-      let e : suc (n - 1) ≡ n = omega (arith, h) in
-      ap (λ (k : ℕ). take k xs) (sym e) ∙ take-suc xs (n - 1) 0 (omega (arith, h, l))
+pub record Cut (operands name : List ℕ) : Type 0 where
+  pub more : List ℕ
+  pub parts : name ++ more ≡ operands
+  pub few : length name ≤ 8
+  pub same : trimmed name ≡ name_in operands
 
-  -- a zero at the end is cut off
-  pub cut_one : (n : ℕ) → n ≤ length xs → 0 < n → get_or xs (n - 1) 0 ≡ 0 → trimmed (take (n - 1) xs) ≡ trimmed (take n xs)
-  cut_one n l h z = sym (ap trimmed (last_of_lem n h l ∙ ap (λ (b : ℕ). take (n - 1) xs ++ (b ∷ [])) z) ∙ trim_zero (take (n - 1) xs))
+pub cut_start : (operands name : List ℕ) → 8 ≤ length operands → name ≡ take 8 operands → Cut operands name
+unfolding name_in
+cut_start operands name h e =
+    record {
+      more = drop 8 operands;
+      parts = ap (λ (l : List ℕ). l ++ drop 8 operands) e ∙ take-append-drop 8 operands;
+      few = let n : length name ≡ 8 = ap length e ∙ length-take-le 8 operands h in omega (arith, n);
+      same = ap trimmed e;
+    }
 
-  -- where no zero ends them, they are the name
-  pub cut_none : (n : ℕ) → n ≡ 0 → trimmed (take n xs) ≡ take n xs
-  unfolding trimmed
-  cut_none n z = ap (λ (k : ℕ). trimmed (take k xs)) z ∙ sym (ap (λ (k : ℕ). take k xs) z)
+-- a zero at the end is cut off
+pub cut_on : (operands name rest : List ℕ) (b : ℕ) → name ≡ rest ++ (b ∷ []) → length rest + 1 ≡ length name → b ≡ 0 → Cut operands name → Cut operands rest
+cut_on operands name rest b e n z w =
+    let f : name ≡ rest ++ (0 ∷ []) = e ∙ ap (λ (x : ℕ). rest ++ (x ∷ [])) z in
+    record {
+      more = 0 ∷ w.more;
+      parts = sym (append_assoc rest (0 ∷ []) w.more) ∙ ap (λ (l : List ℕ). l ++ w.more) (sym f) ∙ w.parts;
+      few = omega (arith, n, w.few);
+      same = sym (trim_zero rest) ∙ ap trimmed (sym f) ∙ w.same;
+    }
 
-  pub cut_all : (n : ℕ) → n ≤ length xs → 0 < n → (get_or xs (n - 1) 0 ≡ 0 → ⊥) → trimmed (take n xs) ≡ take n xs
-  cut_all n l p f = ap trimmed (last_of_lem n p l) ∙ trim_other (take (n - 1) xs) (get_or xs (n - 1) 0) (ne_eqb (get_or xs (n - 1) 0) 0 f) ∙ sym (last_of_lem n p l)
+-- where no zero ends it, it is the name
+pub cut_all : (operands name rest : List ℕ) (b : ℕ) → name ≡ rest ++ (b ∷ []) → (b ≡ 0 → ⊥) → Cut operands name → (length name ≤ 8) × (take (length name) operands ≡ name_in operands)
+cut_all operands name rest b e f w =
+    let t : trimmed name ≡ name = ap trimmed e ∙ trim_other rest b (ne_eqb b 0 f) ∙ sym e in
+    (w.few, ap (take (length name)) (sym w.parts) ∙ take-append_seam name w.more ∙ sym t ∙ w.same)
+
+pub cut_none : (operands name : List ℕ) → length name ≡ 0 → Cut operands name → (0 ≤ 8) × (take 0 operands ≡ name_in operands)
+unfolding trimmed
+cut_none operands [] z w = (omega arith, w.same)
+cut_none operands (b ∷ bs) z w = absurd (omega (arith, z))

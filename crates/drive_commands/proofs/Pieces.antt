@@ -3,16 +3,18 @@
 use mathlib.Core.Path.{◌≡◌, refl, sym, ap, ap₂, ◌∙◌}
 use mathlib.Core.Bool.{Bool, true, false, cond, false≢true}
 use mathlib.Core.List.{List, [], ◌∷◌, ◌++◌}
-use Prim.Native.Nat.{ℕ, zero, suc, ◌≤◌}
+use Prim.Native.Nat.{ℕ}
 use native.Mathlib.Omega.{arith}
 use lib.Dec.{eqb}
 use borrow.Author.Tests.{ne_eqb, eqb-true}
 use Rattle.calls.specs.State.{Call, CallAnswer, create_call, delete_call, truncate_call, append_call}
 use Rattle.call_write.specs.declared.Called.{Called}
-use Rattle.call_write.specs.declared.Called.TheVariants.{Done, Refused}
-use Rattle.call_write.specs.declared.Last.{Last}
-use Rattle.call_write.specs.declared.Last.TheVariants.{Nowhere, At}
-use Rattle.contracts.specs.Numbers.{position_taken, called_numbers}
+use Rattle.std.specs.Prelude.{Option, Some, None, Result, Ok, Err}
+use Rattle.call_decide.specs.Request.{position_of}
+use Rattle.calls.specs.declared.Refusal.{Refusal}
+use Rattle.calls.specs.Refused.{refusal_number}
+use Rattle.calls.proofs.Refused.{refusal_some}
+use Rattle.contracts.specs.Numbers.{called_numbers}
 use Rattle.listing.specs.Internal.{Wrote}
 use Rattle.listing.specs.Listing.{space, numbered, number_line, refusal}
 use Rattle.listing.proofs.Writes.{on, reads, wrote_none_lem}
@@ -24,45 +26,45 @@ use Rattle.drive_commands.specs.declared.Command.TheVariants.{Create, Append, Tr
 
 -- ---- the pieces
 
-module _ {s t : List ℕ} {p q : ℕ} (last : Last) where
-  pub nowhere_on : last ≡ Nowhere → Wrote s p (32 ∷ 45 ∷ []) q t → Wrote s p (space ++ position_text (position_taken last)) q t
-  unfolding position_text position_taken
-  nowhere_on e w = reads (sym (ap (λ (l : Last). space ++ position_text (position_taken l)) e)) w
+module _ {s t : List ℕ} {p q : ℕ} (last : Option ℕ) where
+  pub nowhere_on : last ≡ None → Wrote s p (32 ∷ 45 ∷ []) q t → Wrote s p (space ++ position_text (position_of last)) q t
+  unfolding position_text
+  nowhere_on e w = reads (sym (ap (λ (l : Option ℕ). space ++ position_text (position_of l)) e)) w
 
-  pub at_on : (x : ℕ) → last ≡ At x → Wrote s p (numbered space x) q t → Wrote s p (space ++ position_text (position_taken last)) q t
-  unfolding position_text position_taken numbered
-  at_on x e w = reads (sym (ap (λ (l : Last). space ++ position_text (position_taken l)) e)) w
+  pub at_on : (x : ℕ) → last ≡ Some x → Wrote s p (numbered space x) q t → Wrote s p (space ++ position_text (position_of last)) q t
+  unfolding position_text numbered
+  at_on x e w = reads (sym (ap (λ (l : Option ℕ). space ++ position_text (position_of l)) e)) w
 
-module _ (k : Command) (last : Last) (evicted : ℕ) where
-  pub append_told : {s t : List ℕ} {p q : ℕ} → k ≡ Append → Wrote s p (space ++ position_text (position_taken last)) q t → Wrote s p (told_for (byte_of k) last evicted) q t
+module _ (k : Command) (a : Called) where
+  pub append_told : {s t : List ℕ} {p q : ℕ} → k ≡ Append → Wrote s p (space ++ position_text (position_of a.last)) q t → Wrote s p (told_for (byte_of k) a) q t
   unfolding told_for
-  append_told e w = reads (ap (λ (c : Command). told_for (byte_of c) last evicted) (sym e)) w
+  append_told e w = reads (ap (λ (c : Command). told_for (byte_of c) a) (sym e)) w
 
-  pub truncate_told : {s t : List ℕ} {p q : ℕ} → k ≡ Truncate → Wrote s p (numbered space evicted) q t → Wrote s p (told_for (byte_of k) last evicted) q t
+  pub truncate_told : {s t : List ℕ} {p q : ℕ} → k ≡ Truncate → Wrote s p (numbered space a.evicted) q t → Wrote s p (told_for (byte_of k) a) q t
   unfolding told_for
-  truncate_told e w = reads (ap (λ (c : Command). told_for (byte_of c) last evicted) (sym e)) w
+  truncate_told e w = reads (ap (λ (c : Command). told_for (byte_of c) a) (sym e)) w
 
 -- nothing is told of another command
-pub none_told : (k : Command) (last : Last) (evicted : ℕ) (s : List ℕ) (p : ℕ) → (k ≡ Append → ⊥) → (k ≡ Truncate → ⊥) → Wrote s p (told_for (byte_of k) last evicted) p s
+pub none_told : (k : Command) (a : Called) (s : List ℕ) (p : ℕ) → (k ≡ Append → ⊥) → (k ≡ Truncate → ⊥) → Wrote s p (told_for (byte_of k) a) p s
 unfolding told_for
-none_told Create last evicted s p h i = wrote_none_lem s p
-none_told Append last evicted s p h i = absurd (h refl)
-none_told Truncate last evicted s p h i = absurd (i refl)
-none_told Delete last evicted s p h i = wrote_none_lem s p
+none_told Create a s p h i = wrote_none_lem s p
+none_told Append a s p h i = absurd (h refl)
+none_told Truncate a s p h i = absurd (i refl)
+none_told Delete a s p h i = wrote_none_lem s p
 
-pub ok_on : {s t u v x : List ℕ} {p q r m n : ℕ} (b : ℕ) (last : Last) (e f g : ℕ) → Wrote s p ok_word q t → Wrote t q (told_for b last e) r u
-    → Wrote u r (numbered space f) m v → Wrote v m (number_line space g) n x → Wrote s p (ok_for b last e f g) n x
+pub ok_on : {s t u v x : List ℕ} {p q r m n : ℕ} (b : ℕ) (a : Called) → Wrote s p ok_word q t → Wrote t q (told_for b a) r u
+    → Wrote u r (numbered space a.frame_bytes) m v → Wrote v m (number_line space a.padding_bytes) n x → Wrote s p (ok_for b a) n x
 unfolding ok_for
-ok_on b last e f g w x y z = on w (on x (on y z))
+ok_on b a w x y z = on w (on x (on y z))
 
-module _ {s t : List ℕ} {p q : ℕ} (b : ℕ) (called : Called) where
-  pub done_on : (last : Last) (e f g : ℕ) → called ≡ Done last e f g → Wrote s p (ok_for b last e f g) q t → Wrote s p (line_for b called) q t
+module _ {s t : List ℕ} {p q : ℕ} (b : ℕ) (answer : Result Called Refusal) where
+  pub done_on : (a : Called) → answer ≡ Ok a → Wrote s p (ok_for b a) q t → Wrote s p (line_for b answer) q t
   unfolding line_for
-  done_on last e f g h w = reads (sym (ap (line_for b) h)) w
+  done_on a h w = reads (sym (ap (line_for b) h)) w
 
-  pub refused_on : (n : ℕ) → called ≡ Refused n → Wrote s p (refusal n) q t → Wrote s p (line_for b called) q t
+  pub refused_on : (r : Refusal) (n : ℕ) → answer ≡ Err r → n ≡ refusal_number r → Wrote s p (refusal n) q t → Wrote s p (line_for b answer) q t
   unfolding line_for
-  refused_on n h w = reads (sym (ap (line_for b) h)) w
+  refused_on r n h e w = reads (ap refusal e ∙ sym (ap (line_for b) h)) w
 
 pub refusal_on : {s t : List ℕ} {p q : ℕ} (n : ℕ) → Wrote s p (number_line (114 ∷ 101 ∷ 102 ∷ 117 ∷ 115 ∷ 101 ∷ 100 ∷ 32 ∷ []) n) q t → Wrote s p (refusal n) q t
 unfolding refusal
@@ -85,19 +87,17 @@ told_as false true k xs a h l = refl
 told_as false false true xs a h l = refl
 told_as false false false xs a h l = refl
 
-line_as : (b : ℕ) (i j k : Bool) (xs : List ℕ) (called : Called) → (i ≡ true → j ≡ false) → (i ≡ true → k ≡ false) → (called_numbers called).refusal ≤ 14
-    → eqb b 2 ≡ j → eqb b 3 ≡ k → line_for b called ≡ line_by (call_on i j k xs) (called_numbers called)
+line_as : (b : ℕ) (i j k : Bool) (xs : List ℕ) (answer : Result Called Refusal) → (i ≡ true → j ≡ false) → (i ≡ true → k ≡ false)
+    → eqb b 2 ≡ j → eqb b 3 ≡ k → line_for b answer ≡ line_by (call_on i j k xs) (called_numbers answer)
 unfolding line_for ok_for told_for called_numbers line_by ok_line counts_text
-line_as b i j k xs (Done last e f g) h l m p q =
-    ap₂ (λ (x y : Bool). ok_word ++ (cond x (space ++ position_text (position_taken last)) (cond y (numbered space e) []) ++ (numbered space f ++ number_line space g))) p q
-    ∙ ap (λ (t : List ℕ). ok_word ++ (t ++ (numbered space f ++ number_line space g))) (told_as i j k xs (called_numbers (Done last e f g)) h l)
-line_as b i j k xs (Refused zero) h l m p q = absurd (omega (arith, m))
-line_as b i j k xs (Refused (suc n)) h l m p q =
-    sym (ap (λ (t : Bool). cond t (ok_line (call_on i j k xs) (called_numbers (Refused (suc n)))) (refusal (suc n))) (ne_eqb (suc n) 0 (λ e. omega (arith, e))))
+line_as b i j k xs (Ok a) h l p q =
+    ap₂ (λ (x y : Bool). ok_word ++ (cond x (space ++ position_text (position_of a.last)) (cond y (numbered space a.evicted) []) ++ (numbered space a.frame_bytes ++ number_line space a.padding_bytes))) p q
+    ∙ ap (λ (t : List ℕ). ok_word ++ (t ++ (numbered space a.frame_bytes ++ number_line space a.padding_bytes))) (told_as i j k xs (called_numbers (Ok a)) h l)
+line_as b i j k xs (Err r) h l p q =
+    sym (ap (λ (t : Bool). cond t (ok_line (call_on i j k xs) (called_numbers (Err r))) (refusal (refusal_number r))) (ne_eqb (refusal_number r) 0 (λ e. omega (arith, e, refusal_some r))))
 
--- where the answer's number is one of 01's
-pub line_is : (b : ℕ) (xs : List ℕ) (called : Called) → (called_numbers called).refusal ≤ 14 → line_for b called ≡ line_by (call_by b xs) (called_numbers called)
+pub line_is : (b : ℕ) (xs : List ℕ) (answer : Result Called Refusal) → line_for b answer ≡ line_by (call_by b xs) (called_numbers answer)
 unfolding call_by
-line_is b xs called m =
-    line_as b (eqb b 1) (eqb b 2) (eqb b 3) xs called
-    (λ e. ne_eqb b 2 (λ f. omega (arith, eqb-true b 1 e, f))) (λ e. ne_eqb b 3 (λ f. omega (arith, eqb-true b 1 e, f))) m refl refl
+line_is b xs answer =
+    line_as b (eqb b 1) (eqb b 2) (eqb b 3) xs answer
+    (λ e. ne_eqb b 2 (λ f. omega (arith, eqb-true b 1 e, f))) (λ e. ne_eqb b 3 (λ f. omega (arith, eqb-true b 1 e, f))) refl refl

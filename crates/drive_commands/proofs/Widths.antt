@@ -1,16 +1,16 @@
 -- The width of a command's operands, whether a command stands at a place, and the position that an append names.
 -- Assumes nothing.
-use mathlib.Core.Path.{◌≡◌, sym, ap, ◌∙◌}
-use mathlib.Core.Bool.{Bool, false, cond, ◌&&◌}
+use mathlib.Core.Path.{◌≡◌, refl, sym, ap, ◌∙◌}
+use mathlib.Core.Bool.{Bool, true, false, cond, not, ◌&&◌}
 use mathlib.Core.List.{List}
 use Prim.Native.Nat.{ℕ, suc, ◌-◌, ◌≤◌, ◌<◌}
 use native.Mathlib.Omega.{arith}
-use lib.Dec.{ltb, leb}
+use lib.Dec.{ltb, leb, eqb}
 use lib.ListN.{length, drop, get_or, length-drop, drop_of_length-le}
 use lib.Seq.{drop-cons}
-use borrow.Author.Tests.{lt-ltb, eq-eqb, ne_eqb}
+use borrow.Author.Tests.{lt-ltb}
 use Rattle.queues.specs.Queues.{no_position, at}
-use Rattle.call_decide.specs.declared.AtPosition.TheVariants.{Next, Named}
+use Rattle.std.specs.Prelude.{Option, Some, None}
 use Rattle.call_decide.specs.Request.{position_of}
 use Rattle.drive_commands.specs.Commands.{position_by, width, is_command}
 use Rattle.drive_commands.specs.Internal.{byte_of, starts_command}
@@ -50,10 +50,10 @@ module _ (input : List ℕ) (p : ℕ) where
 
 -- ---- the position of an append
 
-pub none_named : (p q : ℕ) → p ≡ q → p ≡ 0xFFFFFFFFFFFFFFFF → position_of Next ≡ position_by q
-unfolding position_of position_by
-none_named p q e z = sym (ap (λ (t : Bool). cond t no_position (at q)) (eq-eqb q 0xFFFFFFFFFFFFFFFF (sym e ∙ z)))
-
-pub one_named : (p q : ℕ) → p ≡ q → (p ≡ 0xFFFFFFFFFFFFFFFF → ⊥) → position_of (Named p) ≡ position_by q
-unfolding position_of position_by
-one_named p q e h = ap at e ∙ sym (ap (λ (t : Bool). cond t no_position (at q)) (ne_eqb q 0xFFFFFFFFFFFFFFFF (λ z. h (e ∙ z))))
+pub named : (p q : ℕ) (x : Option ℕ) → x ≡ cond (not (eqb p 0xFFFFFFFFFFFFFFFF)) (Some p) None → p ≡ q → position_of x ≡ position_by q
+unfolding position_by
+named p q x h e = ap position_of h ∙ by (eqb p 0xFFFFFFFFFFFFFFFF) ∙ ap (λ (n : ℕ). cond (eqb n 0xFFFFFFFFFFFFFFFF) no_position (at n)) e
+  where
+    by : (t : Bool) → position_of (cond (not t) (Some p) None) ≡ cond t no_position (at p)
+    by true = refl
+    by false = refl

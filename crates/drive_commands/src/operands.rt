@@ -5,7 +5,6 @@ ghost use Rattle.drive_commands.specs.Commands.{name_in, number_in, position_by,
 ghost use Rattle.drive_commands.specs.Internal.{byte_of, starts_command};
 
 use crate::Command;
-use call_decide::AtPosition;
 use fields::u64_at;
 
 const NAME_LEN: usize = 8;
@@ -16,6 +15,7 @@ const PAYLOAD_LEN: usize = 16;
 
 impl Command {
     // The command of a byte, where it is known.
+    // Kept: no plainer: `command_at` passes the Option on by `?`; a TryFrom would name an error that nobody reads, and an `ok()` would drop it there.
     #[tactic(auto, unfolding(crate::specs::Commands::width))]
     pub fn from_byte(byte: u8) -> Option<Command>
         ensures known { IfSome result (λ c. byte_of c ≡ byte) }
@@ -61,11 +61,14 @@ pub fn name_len(operands: &[u8]) -> usize
     requires { 8 ≤ length operands.now }
     ensures { (result ≤ 8) × (take result operands.now ≡ name_in operands.now) }
 {
-    let mut n = NAME_LEN;
-    while 0 < n && operands[n - 1] == 0 {
-        n -= 1;
+    let mut name = &operands[..NAME_LEN];
+    while let Some((last, rest)) = name.split_last() {
+        if *last != 0 {
+            return name.len();
+        }
+        name = rest;
     }
-    n
+    0
 }
 
 // The position.
@@ -77,13 +80,10 @@ pub fn number_in(operands: &[u8]) -> u64
 }
 
 // The position of an append: 2^64-1 is none.
-pub fn at_position(operands: &[u8]) -> AtPosition
+pub fn at_position(operands: &[u8]) -> Option<u64>
     requires { 16 ≤ length operands.now }
     ensures { position_of result ≡ position_by (number_in operands.now) }
 {
     let position = number_in(operands);
-    if position == u64::MAX {
-        return AtPosition::Next;
-    }
-    AtPosition::Named(position)
+    (position != u64::MAX).then_some(position)
 }

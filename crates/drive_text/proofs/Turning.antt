@@ -3,17 +3,17 @@
 use mathlib.Core.Path.{◌≡◌, refl, sym, ap, ap₂, subst, ◌∙◌}
 use mathlib.Core.Bool.{Bool, true, false, cond, false≢true}
 use mathlib.Core.List.{List, [], ◌∷◌, ◌++◌, append_assoc}
-use Prim.Native.Nat.{ℕ, zero, suc, ◌+◌, ◌-◌, ◌≤◌, ◌<◌}
+use Prim.Native.Nat.{ℕ, suc, ◌+◌, ◌-◌, ◌≤◌, ◌<◌}
 use native.Mathlib.Omega.{arith}
 use lib.Dec.{ltb, leb}
 use lib.ListN.{length, take, drop, get_or, length-drop, drop_of_length-le}
 use lib.Seq.{drop-cons, drop-drop, take_all}
 use borrow.Author.Tests.{ltb-true, ltb-false, leb-true}
 use Rattle.queues.proofs.Both.{and_left, and_right}
-use Rattle.calls.specs.State.{State, Call, CallAnswer}
-use Rattle.calls.specs.Refusals.{refusal_of}
-use Rattle.calls.specs.Calls.{done_of, returned_by, call_of}
-use Rattle.calls.proofs.Steps.{done_zero}
+use Rattle.calls.specs.State.{State, Call}
+use Rattle.calls.specs.Calls.{call_of}
+use Rattle.std.specs.Prelude.{Result}
+use Rattle.calls.specs.declared.Refusal.{Refusal}
 use Rattle.call_write.specs.declared.Called.{Called}
 use Rattle.contracts.specs.Promises.{state_of}
 use Rattle.contracts.specs.Numbers.{called_numbers}
@@ -30,7 +30,6 @@ use Rattle.drive_commands.proofs.Pieces.{line_is}
 use Rattle.drive_calls.specs.Driven.{line_of}
 use Rattle.drive_calls.specs.Internal.{lines_from, state_from}
 use Rattle.drive_calls.proofs.Texts.{text_turn}
-use Rattle.drive_calls.proofs.Short.{refusal_most}
 use Rattle.drive_text.proofs.Asked.{asks}
 use Rattle.drive_text.specs.Internal.{passed, end_line, Turned, Ran}
 
@@ -103,16 +102,7 @@ whole_part input p t = (t.wide, subst (λ (xs : List ℕ). width (get_or input p
 
 -- ---- the line of a call
 
-answer_by : (s : State) (k : Call) (i : ℕ) → i ≤ 14 → (returned_by i s (done_of s k)).answer.refusal ≤ 14
-unfolding returned_by
-answer_by s k zero h = omega (arith, done_zero s k)
-answer_by s k (suc i) h = h
-
-answer_most : (s : State) (k : Call) → (call_of s k).answer.refusal ≤ 14
-unfolding call_of
-answer_most s k = answer_by s k (refusal_of s k) (refusal_most s k)
-
-pub turned : {g g' : LentBytes} {out out' : List ℕ} {at r : ℕ} (input : List ℕ) (p : ℕ) (called : Called) → There input p
+pub turned : {g g' : LentBytes} {out out' : List ℕ} {at r : ℕ} (input : List ℕ) (p : ℕ) (called : Result Called Refusal) → There input p
     → CallOnTables g (call_by (get_or input p 0) (take (length input - (p + 1)) (drop (p + 1) input))) (called_numbers called) g'
     → Wrote out at (line_for (get_or input p 0) called) r out' → Turned input p g g' out at r out'
 unfolding line_of
@@ -122,12 +112,11 @@ turned {g} {g'} input p called t w₀ v =
     let k : Call = call_by b (drop (p + 1) input) in
     let s : State = state_of (lent_in g) in
     let a : called_numbers called ≡ (call_of s k).answer = w.kept.answer in
-    let m : (called_numbers called).refusal ≤ 14 = subst (λ (x : CallAnswer). x.refusal ≤ 14) (sym a) (answer_most s k) in
     record {
       asked = k;
       stands = t.stands;
       state = call_means (lent_in g) (lent_in g') k (called_numbers called) w.kept;
-      line = reads (line_is b (drop (p + 1) input) called m ∙ ap (line_by k) a) v;
+      line = reads (line_is b (drop (p + 1) input) called ∙ ap (line_by k) a) v;
     }
 
 -- ---- the loop

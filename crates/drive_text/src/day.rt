@@ -7,8 +7,8 @@ ghost use Rattle.drive_calls.specs.Driven.{drive_text, drive_log};
 ghost use Rattle.drive_text.specs.Internal.{Drove, listed_behind, left_behind};
 
 use crate::run::run;
-use calls::Refusal;
 use listing::{Text, refused};
+use multi_record_log::{LogWriter, QueueMemory, Refusal};
 use readout_text::list_card;
 use slices::clear;
 
@@ -26,19 +26,20 @@ fn drive_zeroed(input: &[u8], log: &mut [u8], out: &mut [u8]) -> usize
     let mut entries = [0u8; 24576];
     let mut largest = [0u8; 8192];
     let mut table = [0u8; 1568];
-    let mut text = Text { out, at: 0 };
-    run(
-        input,
+    let mut writer = LogWriter {
         log,
-        &mut write_position,
-        &mut scratch,
-        &mut names,
-        &mut payloads,
-        &mut entries,
-        &mut largest,
-        &mut table,
-        &mut text,
-    );
+        write_position: &mut write_position,
+        scratch: &mut scratch,
+    };
+    let mut memory = QueueMemory {
+        names: &mut names,
+        payloads: &mut payloads,
+        entries: &mut entries,
+        largest: &mut largest,
+        table: &mut table,
+    };
+    let mut text = Text { out, at: 0 };
+    run(input, &mut writer, &mut memory, &mut text);
     text.at
 }
 
@@ -61,7 +62,7 @@ pub fn drive(input: &[u8], log: &mut [u8; 65536], out: &mut [u8]) -> Option<usiz
 {
     clear(out);
     if MAX_INPUT_LEN < input.len() {
-        return refused(out, Refusal::LOG_SIZE);
+        return refused(out, Refusal::LogSize.number());
     }
     clear(log);
     let at = drive_zeroed(input, log, out);

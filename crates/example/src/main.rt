@@ -3,9 +3,12 @@
 #![tactic(auto)]
 
 use multi_record_log::{
-    AtPosition, Called, CopyAnswer, Lower, QuestionAnswer, ReplayAnswer, Upper,
+    Called, FoundRecord, HeldMemory, LogWriter, Payload, QuestionAnswer, QueueMemory, Refusal,
 };
 use std::io;
+use std::ops::Bound;
+
+const RINGS: &[u8] = b"rings";
 
 // The log, where it is written on, and the scratch.
 #[derive(Drop)]
@@ -16,6 +19,7 @@ struct Log {
 }
 
 // The queue memory.
+// Kept: no plainer: the example and two tests have such a struct, of other sizes; one would take five const parameters, and the example stands alone.
 #[derive(Drop)]
 struct Queues {
     names: [u8; 64],
@@ -34,83 +38,18 @@ impl Log {
         }
     }
 
-    // A queue.
-    fn create(&mut self, queues: &mut Queues) -> Called {
-        multi_record_log::create(
-            &mut self.bytes,
-            &mut self.write_position,
-            &mut self.scratch,
-            &mut queues.names,
-            &mut queues.payloads,
-            &mut queues.entries,
-            &mut queues.largest,
-            &mut queues.table,
-            b"rings",
-        )
-    }
-
-    // Two records in it, from position 7 on.
-    fn append(&mut self, queues: &mut Queues) -> Called {
-        multi_record_log::append(
-            &mut self.bytes,
-            &mut self.write_position,
-            &mut self.scratch,
-            &mut queues.names,
-            &mut queues.payloads,
-            &mut queues.entries,
-            &mut queues.largest,
-            &mut queues.table,
-            b"rings",
-            AtPosition::Named(7),
-            b"ring 7ring 8 x",
-            &[6, 8],
-        )
-    }
-
-    // The first record evicted.
-    fn truncate(&mut self, queues: &mut Queues) -> Called {
-        multi_record_log::truncate(
-            &mut self.bytes,
-            &mut self.write_position,
-            &mut self.scratch,
-            &mut queues.names,
-            &mut queues.payloads,
-            &mut queues.entries,
-            &mut queues.largest,
-            &mut queues.table,
-            b"rings",
-            7,
-        )
-    }
-
-    // What the queues hold, as this log.
-    fn copy_of(&mut self, queues: &Queues) -> CopyAnswer {
-        multi_record_log::copy(
-            &mut self.bytes,
-            &mut self.scratch,
-            &queues.names,
-            &queues.payloads,
-            &queues.entries,
-            &queues.largest,
-            &queues.table,
-        )
-    }
-
-    // The queues of the log; writing goes on where replay resumes.
-    fn replay(&mut self, queues: &mut Queues) -> ReplayAnswer {
-        let answer = multi_record_log::replay(
-            &self.bytes,
-            &mut self.scratch,
-            &mut queues.names,
-            &mut queues.payloads,
-            &mut queues.entries,
-            &mut queues.largest,
-            &mut queues.table,
-        );
-        if let ReplayAnswer::Replayed { resumed, .. } = answer {
-            self.write_position = resumed;
+    // What a call that writes is lent of it.
+    fn writer(&mut self) -> LogWriter<'_> {
+        let Log {
+            bytes,
+            write_position,
+            scratch,
+        } = self;
+        LogWriter {
+            log: bytes,
+            write_position,
+            scratch,
         }
-        answer
     }
 }
 
@@ -125,129 +64,148 @@ impl Queues {
         }
     }
 
-    fn positions(&self) -> QuestionAnswer {
-        multi_record_log::positions(
-            &self.names,
-            &self.payloads,
-            &self.entries,
-            &self.largest,
-            &self.table,
-            b"rings",
-        )
+    // All of it, to be changed.
+    fn lent(&mut self) -> QueueMemory<'_, u8, u8> {
+        let Queues {
+            names,
+            payloads,
+            entries,
+            largest,
+            table,
+        } = self;
+        QueueMemory {
+            names,
+            payloads,
+            entries,
+            largest,
+            table,
+        }
     }
 
-    // The first record.
-    fn first(&self) -> QuestionAnswer {
-        multi_record_log::range(
-            &self.names,
-            &self.payloads,
-            &self.entries,
-            &self.largest,
-            &self.table,
-            b"rings",
-            Lower::Unbounded,
-            Upper::Unbounded,
-        )
-    }
-
-    // The largest payload.
-    fn largest(&self) -> QuestionAnswer {
-        multi_record_log::largest(
-            &self.names,
-            &self.payloads,
-            &self.entries,
-            &self.largest,
-            &self.table,
-            b"rings",
-        )
+    // All of it, to be looked at.
+    fn held(&self) -> HeldMemory<'_, u8, u8> {
+        HeldMemory {
+            names: &self.names,
+            payloads: &self.payloads,
+            entries: &self.entries,
+            largest: &self.largest,
+            table: &self.table,
+        }
     }
 
     // The payload of a record, which a range question answers as a part of the payload memory.
-    fn payload(&self, start: usize, length: usize) -> Option<&[u8]> {
-        self.payloads.get(start..)?.get(..length)
+    fn payload(&self, record: FoundRecord) -> Option<&[u8]> {
+        self.payloads.get(record.start..)?.get(..record.length)
     }
 }
 
 // What a call that writes answered: the bytes of its frames and of the padding before them.
-fn tell_call(rt: &impl Print, what: &str, answer: Called) -> io::Result<()> {
+fn tell_call(rt: &impl Print, what: &str, answer: Result<Called, Refusal>) -> io::Result<()> {
     match answer {
-        Called::Done {
-            frame_bytes,
-            padding_bytes,
-            ..
-        } => println!(rt; "{what}: bytes {frame_bytes} + {padding_bytes}"),
-        Called::Refused(number) => println!(rt; "{what}: refused {number}"),
+        Ok(
+            Called {
+                frame_bytes,
+                padding_bytes,
+                ..
+            },
+        ) => println!(rt; "{what}: bytes {frame_bytes} + {padding_bytes}"),
+        Err(refusal) => println!(rt; "{what}: refused {}", refusal.number()),
     }
+}
+
+fn tell_record(rt: &impl Print, queues: &Queues, record: FoundRecord) -> io::Result<()> {
+    print!(rt; " {}", record.position)?;
+    if let Some(payload) = queues.payload(record) {
+        rt.write_all(b" '")?;
+        rt.write_all(payload)?;
+        rt.write_all(b"'")?;
+    }
+    println!(rt; "")
 }
 
 fn tell_answer(
     rt: &impl Print,
     what: &str,
     queues: &Queues,
-    answer: QuestionAnswer,
+    answer: Result<QuestionAnswer, Refusal>,
 ) -> io::Result<()> {
     print!(rt; "{what}")?;
     match answer {
-        QuestionAnswer::Positions { start, next } => println!(rt; " from {start} to {next}"),
-        QuestionAnswer::Record {
-            position,
-            start,
-            length,
-        } => {
-            print!(rt; " {position}")?;
-            if let Some(payload) = queues.payload(start, length) {
-                rt.write_all(b" '")?;
-                rt.write_all(payload)?;
-                rt.write_all(b"'")?;
-            }
-            println!(rt; "")
-        }
-        QuestionAnswer::Largest { length, position } => {
+        Ok(QuestionAnswer::Positions { start, next }) => println!(rt; " from {start} to {next}"),
+        Ok(QuestionAnswer::Record(Some(record))) => tell_record(rt, queues, record),
+        Ok(QuestionAnswer::Largest(Some(Payload { length, position }))) => {
             println!(rt; " {length} bytes, at {position}")
         }
-        QuestionAnswer::Nothing => println!(rt; " none"),
-        QuestionAnswer::Refused(number) => println!(rt; " refused {number}"),
+        Ok(QuestionAnswer::Record(None)) | Ok(QuestionAnswer::Largest(None)) => {
+            println!(rt; " none")
+        }
+        Err(refusal) => println!(rt; " refused {}", refusal.number()),
     }
 }
 
-// What the queue holds.
+// What the queue holds: its positions, the first record of the range of all, and the largest payload.
 fn tell_queue(rt: &impl Print, queues: &Queues) -> io::Result<()> {
-    tell_answer(rt, "positions", queues, queues.positions())?;
-    tell_answer(rt, "first", queues, queues.first())?;
-    tell_answer(rt, "largest", queues, queues.largest())
+    let memory = queues.held();
+    let positions = multi_record_log::positions(memory, RINGS);
+    tell_answer(rt, "positions", queues, positions)?;
+    let first = multi_record_log::range(memory, RINGS, Bound::Unbounded, Bound::Unbounded);
+    tell_answer(rt, "first", queues, first)?;
+    let largest = multi_record_log::largest(memory, RINGS);
+    tell_answer(rt, "largest", queues, largest)
 }
 
-// The queues of the log, in other memory.
+// The queues of the log, in other memory; writing goes on where replay resumes.
 fn open(rt: &impl Print, log: &mut Log) -> io::Result<()> {
     let mut queues = Queues::new();
-    match log.replay(&mut queues) {
-        ReplayAnswer::Replayed {
-            lost_bytes,
-            resumed,
-            ..
-        } => println!(rt; "open: lost bytes {lost_bytes}, resumed {resumed}")?,
-        ReplayAnswer::Refused(number) => println!(rt; "open: refused {number}")?,
+    match multi_record_log::replay(&log.bytes, &mut log.scratch, &mut queues.lent()) {
+        Ok(replayed) => {
+            log.write_position = replayed.resumed;
+            let lost_bytes = replayed.lost_bytes;
+            let resumed = replayed.resumed;
+            println!(rt; "open: lost bytes {lost_bytes}, resumed {resumed}")?;
+        }
+        Err(refusal) => println!(rt; "open: refused {}", refusal.number())?,
     }
     tell_queue(rt, &queues)
 }
 
-// The first record evicted, and the rest in a fresh log.
-fn cut_down(rt: &impl Print, log: &mut Log, queues: &mut Queues) -> io::Result<()> {
-    tell_call(rt, "truncate", log.truncate(queues))?;
+// What the queues hold, in a fresh log.
+fn cut_down(rt: &impl Print, queues: &Queues) -> io::Result<()> {
     let mut fresh = Log::new();
-    match fresh.copy_of(queues) {
-        CopyAnswer::Copied(end) => println!(rt; "copy: bytes {end}")?,
-        CopyAnswer::Refused(number) => println!(rt; "copy: refused {number}")?,
+    match multi_record_log::copy(&mut fresh.bytes, &mut fresh.scratch, queues.held()) {
+        Ok(end) => println!(rt; "copy: bytes {end}")?,
+        Err(refusal) => println!(rt; "copy: refused {}", refusal.number())?,
     }
     open(rt, &mut fresh)
+}
+
+// A queue, and two records in it, from position 7 on.
+fn write(rt: &impl Print, log: &mut Log, queues: &mut Queues) -> io::Result<()> {
+    let created = multi_record_log::create(&mut log.writer(), &mut queues.lent(), RINGS);
+    tell_call(rt, "create", created)?;
+    let appended = multi_record_log::append(
+        &mut log.writer(),
+        &mut queues.lent(),
+        RINGS,
+        Some(7),
+        b"ring 7ring 8 x",
+        &[6, 8],
+    );
+    tell_call(rt, "append", appended)
+}
+
+// The first record evicted.
+fn evict(rt: &impl Print, log: &mut Log, queues: &mut Queues) -> io::Result<()> {
+    let truncated = multi_record_log::truncate(&mut log.writer(), &mut queues.lent(), RINGS, 7);
+    tell_call(rt, "truncate", truncated)
 }
 
 fn main(rt: HostRuntime) -> io::Result<()> {
     let mut log = Log::new();
     let mut queues = Queues::new();
-    tell_call(&rt, "create", log.create(&mut queues))?;
-    tell_call(&rt, "append", log.append(&mut queues))?;
+    write(&rt, &mut log, &mut queues)?;
     tell_queue(&rt, &queues)?;
     open(&rt, &mut log)?;
-    cut_down(&rt, &mut log, &mut queues)
+    evict(&rt, &mut log, &mut queues)?;
+    cut_down(&rt, &queues)
 }

@@ -5,12 +5,13 @@ use mathlib.Core.List.{List, [], ◌∷◌, ◌++◌}
 use Prim.Native.Nat.{ℕ, zero, suc, ◌+◌, ◌*◌, ◌/◌, ◌%◌, ◌^◌, ◌≤◌, ◌<◌}
 use native.Mathlib.Nat.{pow-succ', mul_assoc, mod-lt, mod-add-div}
 use native.Mathlib.Omega.{arith}
-use lib.ListN.{length, get_or, take, drop, set, length-drop}
+use lib.ListN.{length, get_or, take, drop, length-drop}
 use lib.Seq.{length-take-le, take-add, drop-drop, drop-cons}
+use Rattle.std.specs.Int.{w16, w32, w64, from_le_bytes, to_le_bytes}
 use Rattle.slices.specs.Bytes.{Bytes}
 use Rattle.slices.specs.Put.{put}
 use Rattle.slices.proofs.Bytes.{nil_bytes, cons_bytes, take_bytes, drop_bytes}
-use Rattle.slices.proofs.Put.{put_one, put_on, put_run}
+use Rattle.slices.proofs.Put.{put_on, put_run}
 use Rattle.fields.specs.Le.{le, le_bytes}
 use Rattle.fields.specs.Claims.{NumberComesBack, BytesComeBack, NumberFits, ReadsWritten}
 
@@ -111,13 +112,54 @@ put_parts s l t at m n x h e g =
     put_on s l t at (at + m) (le_bytes m (x % 256 ^ m)) (le_bytes n (x / 256 ^ m)) e (omega arith) (omega arith) g
     ∙ ap (put s at) (sym (le_bytes-append m n (x % 256 ^ m) (x / 256 ^ m) (mod-lt x (power_some m))) ∙ ap (le_bytes (m + n)) w)
 
--- one byte is a number of width 1
-pub le_byte : (s : List ℕ) (at : ℕ) → at < length s → le (take 1 (drop at s)) ≡ get_or s at 0
-unfolding le
-le_byte s at h = ap (λ (t : List ℕ). le (take 1 t)) (drop-cons s at 0 h) ∙ omega arith
+-- ---- the bytes of std's numbers
 
-pub put_byte : (s : List ℕ) (at x : ℕ) → at < length s → x < 256 → set s at x ≡ put s at (le_bytes 1 x)
+-- the byte at i further on, and those after it
+le_next : (s : List ℕ) (at i n : ℕ) → at + i < length s → le (take (suc n) (drop (at + i) s)) ≡ get_or s (at + i) 0 + 256 * le (take n (drop (at + suc i) s))
+unfolding le
+le_next s at i n h =
+    let e : suc (at + i) ≡ at + suc i = omega arith in
+    ap (λ (t : List ℕ). le (take (suc n) t)) (drop-cons s (at + i) 0 h) ∙ ap (λ (k : ℕ). get_or s (at + i) 0 + 256 * le (take n (drop k s))) e
+
+le_none : (s : List ℕ) (k : ℕ) → le (take 0 (drop k s)) ≡ 0
+unfolding le
+le_none s k = refl
+
+module _ (s : List ℕ) (at : ℕ) where
+  at_0 : at + 0 ≡ at
+  at_0 = omega arith
+
+  first : (n : ℕ) → at < length s → le (take (suc n) (drop at s)) ≡ get_or s at 0 + 256 * le (take n (drop (at + 1) s))
+  first n h = rw at_0 at (le_next s at 0 n (omega arith))
+
+  pub read_2 : at + 2 ≤ length s → from_le_bytes w16 (get_or s at 0 ∷ get_or s (at + 1) 0 ∷ []) ≡ le (take 2 (drop at s))
+  read_2 h = omega (arith, first 1 (omega arith), le_next s at 1 0 (omega arith), le_none s (at + 2))
+
+  pub read_4 : at + 4 ≤ length s
+      → from_le_bytes w32 (get_or s at 0 ∷ get_or s (at + 1) 0 ∷ get_or s (at + 2) 0 ∷ get_or s (at + 3) 0 ∷ []) ≡ le (take 4 (drop at s))
+  read_4 h =
+      omega
+      (arith, first 3 (omega arith), le_next s at 1 2 (omega arith), le_next s at 2 1 (omega arith), le_next s at 3 0 (omega arith), le_none s (at + 4))
+
+  pub read_8 : at + 8 ≤ length s
+      → from_le_bytes w64 (get_or s at 0 ∷ get_or s (at + 1) 0 ∷ get_or s (at + 2) 0 ∷ get_or s (at + 3) 0 ∷ get_or s (at + 4) 0 ∷ get_or s (at + 5) 0 ∷ get_or s (at + 6) 0 ∷ get_or s (at + 7) 0 ∷ [])
+      ≡ le (take 8 (drop at s))
+  read_8 h =
+      omega
+      (arith, first 7 (omega arith), le_next s at 1 6 (omega arith), le_next s at 2 5 (omega arith), le_next s at 3 4 (omega arith), le_next s at 4 3 (omega arith), le_next s at 5 2 (omega arith), le_next s at 6 1 (omega arith), le_next s at 7 0 (omega arith), le_none s (at + 8))
+
+pub bytes_2 : (x : ℕ) → to_le_bytes w16 x ≡ le_bytes 2 x
 unfolding le_bytes
-put_byte s at x h l =
-    let e : x ≡ x % 256 = omega arith in
-    put_one s at x h ∙ ap (λ (y : ℕ). put s at (y ∷ [])) e
+bytes_2 x = refl
+
+pub bytes_4 : (x : ℕ) → to_le_bytes w32 x ≡ le_bytes 4 x
+unfolding le_bytes
+bytes_4 x = ap₂ ◌∷◌ refl (ap₂ ◌∷◌ (omega arith) (ap₂ ◌∷◌ (omega arith) (ap₂ ◌∷◌ (omega arith) refl)))
+
+pub bytes_8 : (x : ℕ) → to_le_bytes w64 x ≡ le_bytes 8 x
+unfolding le_bytes
+bytes_8 x =
+    ap₂ ◌∷◌ refl
+    (ap₂ ◌∷◌ (omega arith)
+    (ap₂ ◌∷◌ (omega arith)
+    (ap₂ ◌∷◌ (omega arith) (ap₂ ◌∷◌ (omega arith) (ap₂ ◌∷◌ (omega arith) (ap₂ ◌∷◌ (omega arith) (ap₂ ◌∷◌ (omega arith) refl)))))))

@@ -1,6 +1,7 @@
 // The listing of the queue memory: for each queue one pass over the record table to count its records, and one to write them.
 ghost use Rattle.std.specs.Prelude.{◌≡◌, true, ◌+◌, ◌≤◌, length};
-ghost use Rattle.queues.specs.Layout.{memory, meaning, arranged};
+ghost use Rattle.queues.specs.Layout.{meaning, arranged};
+ghost use Rattle.lent.specs.Memory.{memory_held};
 ghost use Rattle.queues.specs.Changes.{word_at};
 ghost use Rattle.listing.specs.Internal.{SameOut, Puts, ListsFrom};
 ghost use Rattle.listing.specs.Listing.{listing};
@@ -9,6 +10,7 @@ ghost use Rattle.queues.specs.Passes.{EntriesFit, QueueFits};
 ghost use Rattle.listing.specs.Passes.{count_to, lines_to, queue_text};
 
 use crate::Text;
+use lent::HeldMemory;
 use mem_names::table::held;
 use queues::RecordEntry;
 
@@ -36,51 +38,45 @@ impl<'a> Text<'a> {
     // The lines of queue k, whose name starts where the names are passed. Answers where they are passed behind it.
     fn queue_text(
         &mut self,
-        names: &[u8],
-        payloads: &[u8],
-        entries: &[RecordEntry],
-        table: &[u64],
+        memory: HeldMemory<'_, RecordEntry, u64>,
         passed: usize,
         count: usize,
         k: usize,
     ) -> usize
-        requires { QueueFits names.now payloads.now entries.now table.now count passed k }
+        requires { QueueFits memory.names.now memory.payloads.now memory.entries.now memory.table.now count passed k }
         ensures same { SameOut self.old self.new }
         ensures puts { Puts
             self.old
-            (queue_text names.now payloads.now entries.now table.now count passed k)
+            (queue_text memory.entry.names.now memory.entry.payloads.now memory.entry.entries.now memory.entry.table.now count passed k)
             self.new }
-        ensures passed { result ≡ passed + word_at table.now k 0 }
+        ensures passed { result ≡ passed + word_at memory.entry.table.now k 0 }
     {
-        let end = self.row_line(names, table, passed, k, held_of(entries, count, k));
-        self.record_lines(entries, payloads, count, k);
+        let held = held_of(memory.entries, count, k);
+        let end = self.row_line(memory.names, memory.table, passed, k, held);
+        self.record_lines(memory.entries, memory.payloads, count, k);
         end
     }
 }
 
 // The listing of a memory that is arranged, behind what the text has.
 pub fn list(
-    names: &[u8],
-    payloads: &[u8],
-    entries: &[RecordEntry],
-    table: &[u64],
+    memory: HeldMemory<'_, RecordEntry, u64>,
     lost: u64,
     resumed: usize,
     log_bytes: usize,
     text: &mut Text,
 ) -> Option<usize>
-    requires { (arranged (memory names.now payloads.now entries.now table.now) ≡ true)
-        × LogFits resumed log_bytes }
+    requires { (arranged (memory_held memory) ≡ true) × LogFits resumed log_bytes }
     ensures same { SameOut text.old text.new }
     ensures lists { ListsFrom text.old.out.now text.old.at
-        (listing (meaning (memory names.now payloads.now entries.now table.now)) lost resumed log_bytes)
+        (listing (meaning (memory_held memory.entry)) lost resumed log_bytes)
         result text.new.out.now }
 {
-    let sums = held(table);
+    let sums = held(memory.table);
     text.put_number_line(b"queues ", sums.queues as u64);
     let mut passed: usize = 0;
     for k in 0..sums.queues {
-        passed = text.queue_text(names, payloads, entries, table, passed, sums.records, k);
+        passed = text.queue_text(memory, passed, sums.records, k);
     }
     text.end_lines(lost, resumed, log_bytes)
 }

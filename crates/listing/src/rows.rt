@@ -69,6 +69,7 @@ impl<'a> Text<'a> {
 }
 
 // The text of a refusal, from the buffer's start on.
+// Kept: no plainer: the text has a number in it, and a caller may give that of any crate's refusal; the type of one would take fewer.
 pub fn refused(out: &mut [u8], number: u64) -> Option<usize>
     ensures { Lists out.old (refusal number) result out.new }
 {

@@ -8,12 +8,14 @@ use native.Mathlib.Omega.{arith}
 use lib.Dec.{leb}
 use lib.ListN.{length, take, drop, length-drop}
 use lib.Seq.{length-take-le}
+use Rattle.std.specs.Prelude.{Ok, Err}
+use Rattle.frame.specs.declared.ReadFrameError.TheVariants.{Corruption as bad_frame, NotAvailable as no_frame}
 use Rattle.frame.specs.Frame.{begins, ends}
 use Rattle.frame.specs.declared.Reader.{Reader}
 use Rattle.frame.specs.declared.FrameType.{FrameType}
-use Rattle.frame.specs.declared.FrameAnswer.{FrameAnswer}
+use Rattle.frame.specs.Reader.{FrameAnswer}
 use Rattle.frame.specs.declared.Corruption.{Corruption}
-use Rattle.frame.specs.declared.FrameAnswer.TheVariants.{Sound as sound, Corrupt as corrupt, NotAvailable as not_available}
+use Rattle.frame.specs.Reader.{sound, corrupt, not_available}
 use Rattle.frame.specs.Reader.{ahead, read_frame}
 use Rattle.frame.specs.Size.{header_cursor, size_of, frame_size}
 use Rattle.frame.specs.Internal.{Arranged}
@@ -93,11 +95,11 @@ see : (log : List ℕ) (r : Reader) → (((read_frame log r).answer ≡ not_avai
 see log r on = go (read_frame log r).answer refl
   where
     go : (a : FrameAnswer) → (read_frame log r).answer ≡ a → (es : List Sized) × SeesSized log r es
-    go not_available e = ([], none e)
-    go (corrupt c) e = let x = on (not_corrupt (read_frame log r).answer c e) in (corrupted c (frame_size log r) ∷ x.0, bad c (frame_size log r) e refl x.1)
-    go (sound t s n) e =
-        let x = on (not_sound_lem (read_frame log r).answer t s n e) in
-        (good t (take n (drop s log)) (frame_size log r) ∷ x.0, fine t s n (take n (drop s log)) (frame_size log r) e refl refl x.1)
+    go (Err no_frame) e = ([], none e)
+    go (Err (bad_frame c)) e = let x = on (not_corrupt (read_frame log r).answer c e) in (corrupted c (frame_size log r) ∷ x.0, bad c (frame_size log r) e refl x.1)
+    go (Ok f) e =
+        let x = on (not_sound_lem (read_frame log r).answer f.kind f.start f.len e) in
+        (good f.kind (take f.len (drop f.start log)) (frame_size log r) ∷ x.0, fine f.kind f.start f.len (take f.len (drop f.start log)) (frame_size log r) e refl refl x.1)
 
 sees_within : (k : ℕ) (log : List ℕ) (r : Reader) → Arranged log r → ahead log r ≤ k → (es : List Sized) × SeesSized log r es
 sees_within zero log r a h = see log r (λ n. absurd (omega (arith, ahead_falls log r a n)))

@@ -10,7 +10,7 @@ use lib.ListN.{length}
 use Rattle.frame.specs.Frame.{begins, ends}
 use Rattle.frame.specs.declared.Reader.{Reader}
 use Rattle.frame.specs.declared.FrameType.{FrameType}
-use Rattle.frame.specs.declared.FrameAnswer.{FrameAnswer}
+use Rattle.frame.specs.Reader.{FrameAnswer}
 use Rattle.frame.specs.Block.{blocks}
 use Rattle.frame.specs.Reader.{fresh, ahead, read_frame}
 use Rattle.frame.specs.Size.{frame_size}

@@ -1,3 +1,2 @@
 pub mod Telling
 pub mod Leaving
-pub mod Reporting

@@ -1,13 +1,14 @@
 // A report over a box of cards.
+// Kept: the C interface is told the values of an answer one by one, and refusals as numbers.
 ghost use Rattle.std.specs.Prelude.{◌≡◌};
 ghost use Rattle.report.specs.Feed.{feed_answer, feed_left, feed_number, mean_answer};
 ghost use Rattle.mrecordlog.specs.Reported.{mean_told, tell_mean};
 
-use crate::answers::number_told;
-use report::MeanAnswer;
+use report::{MeanLength, ReportRefusal};
 
+#[tactic(auto, unfolding(crate::specs::Reported::tell_mean))]
 fn tell_mean(
-    answer: MeanAnswer,
+    answer: Result<Option<MeanLength>, ReportRefusal>,
     found: &mut u64,
     quotient: &mut u64,
     rest: &mut u64,
@@ -17,30 +18,26 @@ fn tell_mean(
         ≡ tell_mean answer }
 {
     match answer {
-        MeanAnswer::Mean {
-            whole,
-            remainder,
-            count,
-        } => {
+        Ok(Some(mean)) => {
             *found = 1;
-            *quotient = whole;
-            *rest = remainder;
-            *frames = count;
+            *quotient = mean.whole;
+            *rest = mean.remainder;
+            *frames = mean.count;
             0
         }
-        MeanAnswer::Nothing => {
+        Ok(None) => {
             *found = 0;
             *quotient = 0;
             *rest = 0;
             *frames = 0;
             0
         }
-        MeanAnswer::Refused(number) => {
+        Err(refusal) => {
             *found = 0;
             *quotient = 0;
             *rest = 0;
             *frames = 0;
-            number_told(number)
+            refusal.number()
         }
     }
 }

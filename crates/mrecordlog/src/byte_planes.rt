@@ -2,13 +2,26 @@
 ghost use Rattle.std.specs.Prelude.{◌≡◌};
 ghost use Rattle.planes.specs.Step.{step_answer, to_planes_left, from_planes_left, planes_number};
 
+use planes::PlanesError;
+
+// Kept: the C interface gives refusals as numbers.
+// The number of a step's answer: 0 where nothing is refused.
+fn number(answer: Result<(), PlanesError>) -> u64
+    ensures { result ≡ planes_number answer }
+{
+    match answer {
+        Ok(()) => 0,
+        Err(error) => error.number(),
+    }
+}
+
 // The readings of a payload as planes.
 #[unsafe(no_mangle)]
 pub extern "C" fn mrecordlog_to_planes(payload: &[u8], width: u64, target: &mut [u8]) -> u64
     ensures { (result ≡ planes_number (step_answer width payload.now target.old))
         × (target.new ≡ to_planes_left width payload.now target.old) }
 {
-    planes::number(planes::to_planes(payload, width, target))
+    number(planes::to_planes(payload, width, target))
 }
 
 // The readings that a payload of planes holds.
@@ -17,5 +30,5 @@ pub extern "C" fn mrecordlog_from_planes(payload: &[u8], width: u64, target: &mu
     ensures { (result ≡ planes_number (step_answer width payload.now target.old))
         × (target.new ≡ from_planes_left width payload.now target.old) }
 {
-    planes::number(planes::from_planes(payload, width, target))
+    number(planes::from_planes(payload, width, target))
 }

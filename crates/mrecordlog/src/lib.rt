@@ -9,6 +9,7 @@ mod questions;
 mod reading;
 mod writes;
 
+// Kept: the C interface gives refusals, kinds and flags as numbers, so the three structs here hold numbers.
 // What a call that writes tells: the refusal's number or 0, whether there is a last position and which, the records evicted, and the bytes written, those of
 // the frames and those of the padding.
 #[derive(Clone, Copy)]

@@ -1,166 +1,107 @@
 // The questions.
+// Kept: the C interface lends the memory in parts, and is told the values of an answer one by one.
 ghost use Rattle.std.specs.Prelude.{◌≡◌};
+ghost use Rattle.calls.specs.Refused.{numbered};
 ghost use Rattle.contracts.specs.Numbers.{positions_numbers, largest_numbers};
 ghost use Rattle.abi_call.specs.OnBytes.{memory_bytes};
 ghost use Rattle.abi_largest.specs.Numbers.{numbers};
 ghost use Rattle.abi_tables.specs.Tables.{memory_in};
-ghost use Rattle.mrecordlog.specs.Told.{lower_of, upper_of, range_told, tell_range, positions_told, tell_positions, largest_told, tell_largest};
+ghost use Rattle.mrecordlog.specs.Told.{bound_of, range_told, tell_range, positions_told, tell_positions, largest_told, tell_largest};
 ghost use Rattle.mrecordlog.specs.Exported.{RangeExported, PositionsExported, LargestExported};
 
-use crate::answers::number_told;
-use multi_record_log::{Lower, QuestionAnswer, Upper};
+use multi_record_log::{HeldMemory, QuestionAnswer, Refusal};
+use std::ops::Bound;
 
-fn lower_bound(kind: u64, position: u64) -> Lower
-    ensures { result ≡ lower_of kind position }
+// An end of a range, by its kind.
+// Kept: the C interface gives the kind as a number.
+#[tactic(auto, unfolding(crate::specs::Told::bound_of))]
+fn bound(kind: u64, position: u64) -> Bound<u64>
+    ensures { result ≡ bound_of kind position }
 {
     if kind == 1 {
-        return Lower::From(position);
+        return Bound::Included(position);
     }
     if kind == 2 {
-        return Lower::After(position);
+        return Bound::Excluded(position);
     }
-    Lower::Unbounded
+    Bound::Unbounded
 }
 
-fn upper_bound(kind: u64, position: u64) -> Upper
-    ensures { result ≡ upper_of kind position }
-{
-    if kind == 1 {
-        return Upper::Through(position);
-    }
-    if kind == 2 {
-        return Upper::Before(position);
-    }
-    Upper::Unbounded
-}
-
+#[tactic(auto, unfolding(crate::specs::Told::tell_range))]
 fn tell_range(
-    answer: QuestionAnswer,
+    answer: Result<QuestionAnswer, Refusal>,
     found: &mut u64,
     at: &mut u64,
     from: &mut u64,
     len: &mut u64,
 ) -> u64
     ensures { range_told result found.new at.new from.new len.new
-        ≡ tell_range answer }
+        ≡ tell_range (numbered answer) }
 {
+    *found = 0;
+    *at = 0;
+    *from = 0;
+    *len = 0;
     match answer {
-        QuestionAnswer::Record {
-            position,
-            start,
-            length,
-        } => {
+        Ok(QuestionAnswer::Record(Some(record))) => {
             *found = 1;
-            *at = position;
-            *from = start as u64;
-            *len = length as u64;
+            *at = record.position;
+            *from = record.start as u64;
+            *len = record.length as u64;
             0
         }
-        QuestionAnswer::Nothing => {
-            *found = 0;
-            *at = 0;
-            *from = 0;
-            *len = 0;
-            0
-        }
-        QuestionAnswer::Positions { start, next } => {
-            *found = 0;
-            *at = 0;
-            *from = 0;
-            *len = 0;
-            99
-        }
-        QuestionAnswer::Largest { length, position } => {
-            *found = 0;
-            *at = 0;
-            *from = 0;
-            *len = 0;
-            99
-        }
-        QuestionAnswer::Refused(number) => {
-            *found = 0;
-            *at = 0;
-            *from = 0;
-            *len = 0;
-            number_told(number)
-        }
+        Ok(QuestionAnswer::Record(None)) => 0,
+        Ok(QuestionAnswer::Positions { .. }) => 99,
+        Ok(QuestionAnswer::Largest(_)) => 99,
+        Err(refusal) => refusal.number(),
     }
 }
 
-fn tell_positions(answer: QuestionAnswer, first: &mut u64, following: &mut u64) -> u64
+#[tactic(auto, unfolding(crate::specs::Told::tell_positions, contracts::specs::Numbers::positions_numbers))]
+fn tell_positions(
+    answer: Result<QuestionAnswer, Refusal>,
+    first: &mut u64,
+    following: &mut u64,
+) -> u64
     ensures { positions_told result first.new following.new ≡ tell_positions (positions_numbers answer) }
 {
+    *first = 0;
+    *following = 0;
     match answer {
-        QuestionAnswer::Positions { start, next } => {
+        Ok(QuestionAnswer::Positions { start, next }) => {
             *first = start;
             *following = next;
             0
         }
-        QuestionAnswer::Record {
-            position,
-            start,
-            length,
-        } => {
-            *first = 0;
-            *following = 0;
-            99
-        }
-        QuestionAnswer::Largest { length, position } => {
-            *first = 0;
-            *following = 0;
-            99
-        }
-        QuestionAnswer::Nothing => {
-            *first = 0;
-            *following = 0;
-            99
-        }
-        QuestionAnswer::Refused(number) => {
-            *first = 0;
-            *following = 0;
-            number_told(number)
-        }
+        Ok(QuestionAnswer::Record(_)) => 99,
+        Ok(QuestionAnswer::Largest(_)) => 99,
+        Err(refusal) => refusal.number(),
     }
 }
 
-fn tell_largest(answer: QuestionAnswer, found: &mut u64, len: &mut u64, at: &mut u64) -> u64
+#[tactic(auto, unfolding(crate::specs::Told::tell_largest, crate::specs::Told::tell_found, contracts::specs::Numbers::largest_numbers))]
+fn tell_largest(
+    answer: Result<QuestionAnswer, Refusal>,
+    found: &mut u64,
+    len: &mut u64,
+    at: &mut u64,
+) -> u64
     ensures { largest_told result found.new len.new at.new ≡ tell_largest (largest_numbers answer) }
 {
+    *found = 0;
+    *len = 0;
+    *at = 0;
     match answer {
-        QuestionAnswer::Largest { length, position } => {
+        Ok(QuestionAnswer::Largest(Some(payload))) => {
             *found = 1;
-            *len = length as u64;
-            *at = position;
+            *len = payload.length as u64;
+            *at = payload.position;
             0
         }
-        QuestionAnswer::Nothing => {
-            *found = 0;
-            *len = 0;
-            *at = 0;
-            0
-        }
-        QuestionAnswer::Positions { start, next } => {
-            *found = 0;
-            *len = 0;
-            *at = 0;
-            99
-        }
-        QuestionAnswer::Record {
-            position,
-            start,
-            length,
-        } => {
-            *found = 0;
-            *len = 0;
-            *at = 0;
-            99
-        }
-        QuestionAnswer::Refused(number) => {
-            *found = 0;
-            *len = 0;
-            *at = 0;
-            number_told(number)
-        }
+        Ok(QuestionAnswer::Largest(None)) => 0,
+        Ok(QuestionAnswer::Positions { .. }) => 99,
+        Ok(QuestionAnswer::Record(_)) => 99,
+        Err(refusal) => refusal.number(),
     }
 }
 
@@ -185,13 +126,20 @@ pub extern "C" fn mrecordlog_range(
         (memory_in (memory_bytes names.now payloads.now entries.now largest.now table.now))
         (numbers largest.now)
         name.now
-        (lower_of lower_kind lower)
-        (upper_of upper_kind upper)
+        (bound_of lower_kind lower)
+        (bound_of upper_kind upper)
         (range_told result found.new position.new start.new length.new) }
 {
-    let lo = lower_bound(lower_kind, lower);
-    let hi = upper_bound(upper_kind, upper);
-    let answer = multi_record_log::range(names, payloads, entries, largest, table, name, lo, hi);
+    let memory = HeldMemory {
+        names,
+        payloads,
+        entries,
+        largest,
+        table,
+    };
+    let lo = bound(lower_kind, lower);
+    let hi = bound(upper_kind, upper);
+    let answer = multi_record_log::range(memory, name, lo, hi);
     tell_range(answer, found, position, start, length)
 }
 
@@ -212,7 +160,14 @@ pub extern "C" fn mrecordlog_positions(
         name.now
         (positions_told result start.new next.new) }
 {
-    let answer = multi_record_log::positions(names, payloads, entries, largest, table, name);
+    let memory = HeldMemory {
+        names,
+        payloads,
+        entries,
+        largest,
+        table,
+    };
+    let answer = multi_record_log::positions(memory, name);
     tell_positions(answer, start, next)
 }
 
@@ -234,6 +189,13 @@ pub extern "C" fn mrecordlog_largest(
         name.now
         (largest_told result found.new length.new position.new) }
 {
-    let answer = multi_record_log::largest(names, payloads, entries, largest, table, name);
+    let memory = HeldMemory {
+        names,
+        payloads,
+        entries,
+        largest,
+        table,
+    };
+    let answer = multi_record_log::largest(memory, name);
     tell_largest(answer, found, length, position)
 }

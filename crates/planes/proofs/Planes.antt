@@ -10,7 +10,7 @@ use lib.ListN.{length}
 use Rattle.planes.specs.Planes.{every, runs, crossed, to_planes, from_planes}
 use Rattle.planes.specs.Claims.{ReadingsComeBack, PlanesComeBack, SameLength, SameTotal, PlanesInOrder, ReadingsInOrder, StepsUndo, SmallPlanes}
 use Rattle.planes.specs.Step.{planes_fit, planes_answer, planes_left, to_planes_left, from_planes_left}
-use Rattle.planes.specs.declared.PlanesAnswer.TheVariants.{Done as done}
+use Rattle.std.specs.Prelude.{Ok}
 use Rattle.planes.proofs.Fits.{fits}
 use Rattle.planes.proofs.Runs.{length-crossed, crossed_at, crossed_back}
 use Rattle.planes.proofs.Total.{total-crossed}
@@ -46,12 +46,12 @@ pub readings_in_order : ReadingsInOrder
 readings_in_order w i j ys p h a b = crossed_at (length ys / w) w ys j i b a
 
 -- a step that is done was taken, and has left what it made
-taken : (t : Bool) → planes_answer t ≡ done → t ≡ true
+taken : (t : Bool) → planes_answer t ≡ Ok tt → t ≡ true
 unfolding planes_answer
 taken true e = refl
 taken false e = cc
 
-answered : (t : Bool) → t ≡ true → planes_answer t ≡ done
+answered : (t : Bool) → t ≡ true → planes_answer t ≡ Ok tt
 unfolding planes_answer
 answered t e = ap planes_answer e
 

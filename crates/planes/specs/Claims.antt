@@ -4,7 +4,7 @@
 use Rattle.std.specs.Prelude.{◌≡◌, List, [], ◌∷◌, ℕ, ◌+◌, ◌*◌, ◌/◌, ◌%◌, ◌<◌, length, get_or}
 use Rattle.planes.specs.Planes.{to_planes, from_planes}
 use Rattle.planes.specs.Step.{step_answer, to_planes_left, from_planes_left}
-use Rattle.planes.specs.declared.PlanesAnswer.TheVariants.{Done as done}
+use Rattle.std.specs.declared.result.Result.TheVariants.{Ok}
 
 -- 02: "The inverse restores it, each way undoes the other": planes of readings, turned back, are the readings
 abbrev pub ReadingsComeBack : Type 0
@@ -39,10 +39,10 @@ ReadingsInOrder = (w i j : ℕ) (ys : List ℕ) → 0 < w → length ys % w ≡ 
 
 -- and so do the steps: what a step not refused has made, given to the other step with a target of its length, is not refused and is the payload again
 abbrev pub StepsUndo : Type 0
-StepsUndo = (w : ℕ) (xs target again : List ℕ) → step_answer w xs target ≡ done → length again ≡ length xs
-    → (step_answer w (to_planes_left w xs target) again ≡ done)
+StepsUndo = (w : ℕ) (xs target again : List ℕ) → step_answer w xs target ≡ Ok tt → length again ≡ length xs
+    → (step_answer w (to_planes_left w xs target) again ≡ Ok tt)
     × (from_planes_left w (to_planes_left w xs target) again ≡ xs)
-    × (step_answer w (from_planes_left w xs target) again ≡ done)
+    × (step_answer w (from_planes_left w xs target) again ≡ Ok tt)
     × (to_planes_left w (from_planes_left w xs target) again ≡ xs)
 
 -- three readings of two bytes, and two readings of three bytes

@@ -4,27 +4,22 @@
 ghost use Rattle.std.specs.Prelude.{◌≡◌, ◌+◌, ◌*◌, ◌≤◌, ◌<◌, length};
 ghost use Rattle.slices.specs.Put.{put};
 ghost use Rattle.planes.specs.Planes.{every, crossed};
-ghost use Rattle.planes.specs.Step.{planes_fit, step_answer, to_planes_left, from_planes_left, planes_number};
+ghost use Rattle.planes.specs.Step.{planes_fit, step_answer, to_planes_left, from_planes_left, error_number};
 
-// What a step answers.
-#[derive(Clone, Copy)]
-pub enum PlanesAnswer {
-    Done,
-    Refused(u64),
+// Why a step is refused.
+#[derive(Clone, Copy, Debug, PartialEq, Eq)]
+pub enum PlanesError {
+    // The width is outside 1 to 64 or doesn't divide the payload's length, or the target's length isn't the payload's.
+    WidthWrong = 18,
 }
 
-// The number of an answer: 0 where nothing is refused.
-pub fn number(answer: PlanesAnswer) -> u64
-    ensures { result ≡ planes_number answer }
-{
-    match answer {
-        PlanesAnswer::Done => 0,
-        PlanesAnswer::Refused(number) => {
-            if number == 0 {
-                return 99;
-            }
-            number
-        }
+impl PlanesError {
+    // The refusal's number.
+    // Kept: no plainer: one cast, with a name that says what the number is.
+    pub fn number(self) -> u64
+        ensures { result ≡ error_number self }
+    {
+        self as u64
     }
 }
 
@@ -32,16 +27,7 @@ pub fn number(answer: PlanesAnswer) -> u64
 fn planes_fit(width: u64, payload: usize, target: usize) -> bool
     ensures { result ≡ planes_fit width payload target }
 {
-    if width == 0 {
-        return false;
-    }
-    if width > 64 {
-        return false;
-    }
-    if payload % (width as usize) != 0 {
-        return false;
-    }
-    target == payload
+    1 <= width && width <= 64 && payload % (width as usize) == 0 && target == payload
 }
 
 // Byte `from` of src and every `step`-th after it, n bytes, stored from `at` on.
@@ -49,10 +35,8 @@ fn gather(src: &[u8], from: usize, step: usize, n: usize, dst: &mut [u8], at: us
     requires { (from < step) × (n * step ≤ length src.now) × (at + n ≤ length dst.old) }
     ensures { dst.new ≡ put dst.old at (every step n from src.now) }
 {
-    let mut i = 0;
-    while i < n {
+    for i in 0..n {
         dst[at + i] = src[i * step + from];
-        i += 1;
     }
 }
 
@@ -61,35 +45,33 @@ fn cross(src: &[u8], m: usize, n: usize, dst: &mut [u8])
     requires { (length src.now ≡ m * n) × (length dst.old ≡ m * n) }
     ensures { dst.new ≡ crossed m n src.now }
 {
-    let mut j = 0;
-    while j < m {
+    for j in 0..m {
         gather(src, j, m, n, dst, j * n);
-        j += 1;
     }
 }
 
 // The readings of a payload as planes.
-pub fn to_planes(payload: &[u8], width: u64, target: &mut [u8]) -> PlanesAnswer
+pub fn to_planes(payload: &[u8], width: u64, target: &mut [u8]) -> Result<(), PlanesError>
     ensures { (result ≡ step_answer width payload.now target.old)
         × (target.new ≡ to_planes_left width payload.now target.old) }
 {
     if !planes_fit(width, payload.len(), target.len()) {
-        return PlanesAnswer::Refused(18);
+        return Err(PlanesError::WidthWrong);
     }
     let w = width as usize;
     cross(payload, w, payload.len() / w, target);
-    PlanesAnswer::Done
+    Ok(())
 }
 
 // The readings that a payload of planes holds.
-pub fn from_planes(payload: &[u8], width: u64, target: &mut [u8]) -> PlanesAnswer
+pub fn from_planes(payload: &[u8], width: u64, target: &mut [u8]) -> Result<(), PlanesError>
     ensures { (result ≡ step_answer width payload.now target.old)
         × (target.new ≡ from_planes_left width payload.now target.old) }
 {
     if !planes_fit(width, payload.len(), target.len()) {
-        return PlanesAnswer::Refused(18);
+        return Err(PlanesError::WidthWrong);
     }
     let w = width as usize;
     cross(payload, payload.len() / w, w, target);
-    PlanesAnswer::Done
+    Ok(())
 }

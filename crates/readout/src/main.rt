@@ -15,6 +15,7 @@ fn show<O: Write, E: Write>(output: &mut O, errors: &mut E, input: &[u8]) {
     }
 }
 
+// Kept: no plainer: cutdown's `main` reads its card likewise; a function of both would take as closures what each does with a card and with a failure.
 fn main(rt: HostRuntime) {
     let mut errors = rt.stderr();
     let mut input = [0u8; 65537];

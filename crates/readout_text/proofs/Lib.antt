@@ -1,4 +1,3 @@
-pub mod OwnTable
 pub mod Between
 pub mod Sizes
 pub mod Short

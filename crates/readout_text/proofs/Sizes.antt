@@ -11,15 +11,14 @@ use borrow.Author.Tests.{lt-ltb, le-ltb}
 use Rattle.slices.specs.Bytes.{zeros}
 use Rattle.frame.specs.Block.{blocks}
 use Rattle.queues.specs.Queues.{Capacities}
-use Rattle.queues.specs.Layout.{capacities, queue_room, at_most64}
+use Rattle.queues.specs.Layout.{Memory, capacities, queue_room, at_most64}
 use Rattle.calls.specs.Refusals.{log_refused}
 use Rattle.std.specs.Prelude.{Option}
 use Rattle.listing.specs.Writing.{written, listed}
 use Rattle.listing.specs.Listing.{refusal}
 use Rattle.readout_text.specs.Card.{text_in, readout_room, sized_text, not_sized, card_text}
-use Rattle.readout_text.specs.Kept.{lent_to, CardKept}
+use Rattle.readout_text.specs.Kept.{CardKept}
 use Rattle.readout_text.specs.Claims.{TooShort, TooLong}
-use Rattle.readout_text.proofs.OwnTable.{blanks_length}
 
 -- ---- the input
 
@@ -49,22 +48,17 @@ log_sized input h k =
 room_for : ℕ → ℕ → ℕ → ℕ → Capacities
 room_for t ns es ps = record { queues = queue_room t; names = ns; records = es; payloads = ps }
 
-room_is : (ns ps t : List ℕ) → length ns ≡ 32768 → length ps ≡ 32768 → length t ≡ 196 → capacities (lent_to ns ps t) ≡ readout_room
+room_is : (m : Memory) → length m.names ≡ 32768 → length m.payloads ≡ 32768 → length m.entries ≡ 1024 → length m.table ≡ 196 → capacities m ≡ readout_room
 unfolding capacities queue_room at_most64 room_for
-room_is ns ps t a b c =
-    ap (λ (k : ℕ). room_for k (length ns) (length (lent_to ns ps t).entries) (length ps)) c ∙ ap (λ (k : ℕ). room_for 196 k (length (lent_to ns ps t).entries) (length ps)) a
-    ∙ ap (λ (k : ℕ). room_for 196 32768 k (length ps)) blanks_length ∙ ap (λ (k : ℕ). room_for 196 32768 1024 k) b
+room_is m a b c d =
+    ap₂ (λ (k l : ℕ). room_for k l (length m.entries) (length m.payloads)) d a ∙ ap₂ (λ (k l : ℕ). room_for 196 32768 k l) c b
 
-text_is : (input scratch ns ps t : List ℕ) → length scratch ≡ 65536 → length ns ≡ 32768 → length ps ≡ 32768 → length t ≡ 196
-    → text_in input (capacities (lent_to ns ps t)) (length scratch) ≡ sized_text input
-unfolding sized_text
-text_is input scratch ns ps t s a b c = ap₂ (λ (x : Capacities) (k : ℕ). text_in input x k) (room_is ns ps t a b c) s
-
-pub sized_left : (input scratch ns ps ks t out : List ℕ) (r : Option ℕ) (scratch' ns' ps' ks' t' out' : List ℕ) → length scratch ≡ 65536 → length ns ≡ 32768 → length ps ≡ 32768 → length t ≡ 196
-    → out ≡ zeros (length out) → CardKept input scratch ns ps ks t out r scratch' ns' ps' ks' t' out'
+pub sized_left : (input scratch : List ℕ) (m : Memory) (ks out : List ℕ) (r : Option ℕ) (scratch' : List ℕ) (m' : Memory) (ks' out' : List ℕ) → length scratch ≡ 65536 → length m.names ≡ 32768
+    → length m.payloads ≡ 32768 → length m.entries ≡ 1024 → length m.table ≡ 196 → out ≡ zeros (length out) → CardKept input scratch m ks out r scratch' m' ks' out'
     → (r ≡ listed (length out) (length (sized_text input))) × (out' ≡ written (zeros (length out)) 0 (sized_text input))
-sized_left input scratch ns ps ks t out r scratch' ns' ps' ks' t' out' s a b c clear w =
-    let e : text_in input (capacities (lent_to ns ps t)) (length scratch) ≡ sized_text input = text_is input scratch ns ps t s a b c in (
+unfolding sized_text
+sized_left input scratch m ks out r scratch' m' ks' out' s a b c d clear w =
+    let e : text_in input (capacities m) (length scratch) ≡ sized_text input = ap₂ (λ (x : Capacities) (k : ℕ). text_in input x k) (room_is m a b c d) s in (
       w.answer ∙ ap (λ (x : List ℕ). listed (length out) (length x)) e,
       w.text_left ∙ ap₂ (λ (o x : List ℕ). written o 0 x) clear e,
     )

@@ -7,7 +7,9 @@ ghost use Rattle.readout_text.specs.Card.{card_text, sized_text};
 use crate::replayed::list_replayed;
 use calls::Refusal;
 use frame::Reader;
+use lent::QueueMemory;
 use listing::refused;
+use mem_entries::blank;
 use slices::clear;
 
 // Two blocks.
@@ -24,17 +26,17 @@ fn list_sized(input: &[u8], out: &mut [u8]) -> Option<usize>
     let mut scratch = [0u8; 65536];
     let mut names = [0u8; 32768];
     let mut payloads = [0u8; 32768];
+    let mut entries = [blank(); 1024];
     let mut largest = [0u64; 1024];
     let mut table = [0u64; 196];
-    list_replayed(
-        input,
-        &mut scratch,
-        &mut names,
-        &mut payloads,
-        &mut largest,
-        &mut table,
-        out,
-    )
+    let mut memory = QueueMemory {
+        names: &mut names,
+        payloads: &mut payloads,
+        entries: &mut entries,
+        largest: &mut largest,
+        table: &mut table,
+    };
+    list_replayed(input, &mut scratch, &mut memory, out)
 }
 
 // What `readout` prints for an input, with zeros after it.
@@ -44,7 +46,7 @@ pub fn list_card(input: &[u8], out: &mut [u8]) -> Option<usize>
 {
     clear(out);
     if input.len() < Reader::BLOCK_NUM_BYTES || MAX_CARD_LEN < input.len() {
-        return refused(out, Refusal::LOG_SIZE);
+        return refused(out, Refusal::LogSize.number());
     }
     list_sized(input, out)
 }

@@ -13,7 +13,8 @@ use Rattle.calls.specs.Refusals.{refuse_if, log_refused}
 use Rattle.calls.proofs.Chain.{lowest_of}
 use Rattle.abi_queues.specs.Words.{words_from}
 use Rattle.report_count.specs.Sums.{plus}
-use Rattle.report.specs.declared.MeanAnswer.TheVariants.{Refused as no_mean}
+use Rattle.std.specs.Prelude.{Ok, Err}
+use Rattle.report.specs.declared.ReportRefusal.TheVariants.{NotArranged as not_arranged}
 use Rattle.report.specs.Layout.{report_numbers, most_logs, all_within, numbers_arranged, report_arranged}
 use Rattle.report.specs.Feed.{feed_refusals, feed_refusal, feed_left, mean_of, sound_frames, mean_answer}
 use Rattle.report.specs.Claims.{empty_report, feed_all, logs_kept, sums, logs_sized}
@@ -57,10 +58,10 @@ report_next logs log =
 pub report_mean : ReportMean
 unfolding mean_answer
 report_mean logs =
-    ap (λ (a : Bool). cond a (mean_of (sound_frames (report_numbers (feed_all empty_report logs))) (get_or (report_numbers (feed_all empty_report logs)) 11 0)) (no_mean 6))
+    ap (λ (a : Bool). cond a (Ok (mean_of (sound_frames (report_numbers (feed_all empty_report logs))) (get_or (report_numbers (feed_all empty_report logs)) 11 0))) (Err not_arranged))
     (all_arranged empty_report logs empty_arranged)
-    ∙ ap (λ (ws : List ℕ). mean_of (sound_frames ws) (get_or ws 11 0)) (report_sums logs)
-    ∙ ap₂ mean_of (sums_sound (logs_kept empty_report logs)) (sums_data (logs_kept empty_report logs))
+    ∙ ap (λ (ws : List ℕ). Ok (mean_of (sound_frames ws) (get_or ws 11 0))) (report_sums logs)
+    ∙ ap₂ (λ (n m : ℕ). Ok (mean_of n m)) (sums_sound (logs_kept empty_report logs)) (sums_data (logs_kept empty_report logs))
 
 pub report_arranged_lem : ReportArranged
 report_arranged_lem = record {

@@ -17,12 +17,13 @@ use Rattle.report_frames.specs.Seen.{frames_read}
 use Rattle.report_frames.specs.Tally.{tally}
 use Rattle.report_count.specs.Sums.{plus}
 use Rattle.report_count.specs.Table.{NumbersFit}
-use Rattle.report.specs.declared.FeedAnswer.TheVariants.{Fed as fed, Refused as refused}
+use Rattle.std.specs.Prelude.{Option, None, Ok, Err}
+use Rattle.report.specs.declared.ReportRefusal.{ReportRefusal}
+use Rattle.report.specs.declared.ReportRefusal.TheVariants.{LogSize as log_size, NotArranged as not_arranged, ReportFull as report_full}
+use Rattle.report.specs.declared.MeanLength.{MeanLength}
 use Rattle.report.specs.Layout.{report_numbers, number_bytes, numbers_arranged, report_arranged}
 use Rattle.report.specs.Internal.{NumbersOk}
-use Rattle.report.specs.Feed.{feed_refusal, feed_answer_by, feed_answer, fed_report, feed_left_by, feed_left, feed_number, mean_of, sound_frames, mean_answer}
-use Rattle.report.specs.declared.MeanAnswer.{MeanAnswer}
-use Rattle.report.specs.declared.MeanAnswer.TheVariants.{Mean as mean, Nothing as nothing, Refused as no_mean}
+use Rattle.report.specs.Feed.{feed_refusal, refusal_of, feed_answer_by, feed_answer, fed_report, feed_left_by, feed_left, feed_number, mean, mean_of, sound_frames, mean_answer}
 use Rattle.report.proofs.Bounds.{ok_numbers, ok_small, fed_ok, length-fed}
 use Rattle.report.proofs.Refusing.{length-numbers, FeedPassed}
 
@@ -36,17 +37,40 @@ pub left_kept : (report log : List ℕ) (n : ℕ) → feed_refusal report log �
 unfolding feed_left feed_left_by
 left_kept report log n e = ap (λ (n : ℕ). feed_left_by n report log) e
 
-pub fed_by : (report log after : List ℕ) (n : ℕ) → n ≡ feed_refusal report log → n ≡ 0 → after ≡ fed_report report log
-    → (fed ≡ feed_answer report log) × (after ≡ feed_left report log)
+-- no refusal, so the number is 0
+pub passes : (report log : List ℕ) → Ok tt ≡ feed_answer report log → feed_refusal report log ≡ 0
 unfolding feed_answer feed_answer_by
-fed_by report log after n e z f = (sym (ap feed_answer_by (sym e ∙ z)), f ∙ sym (left-fed report log (sym e ∙ z)))
+passes report log e = go (feed_refusal report log) e
+  where
+    go : (n : ℕ) → Ok tt ≡ feed_answer_by n → n ≡ 0
+    go zero e = refl
+    go (suc n) e = absurd (let z : ◌≡◌ {A = ℕ} 0 1 = cc in omega arith)
 
--- refused by a number that is not 0
-pub refused_by_lem : (report log : List ℕ) (n : ℕ) → n ≡ feed_refusal report log → (n ≡ 0 → ⊥)
-    → (refused n ≡ feed_answer report log) × (report ≡ feed_left report log)
+-- refused: the report is left as it was
+pub kept_as : (report log : List ℕ) (k : ReportRefusal) → Err k ≡ feed_answer report log → report ≡ feed_left report log
 unfolding feed_answer feed_answer_by feed_left feed_left_by
-refused_by_lem report log zero e h = absurd (h refl)
-refused_by_lem report log (suc n) e h = (ap feed_answer_by e, ap (λ (n : ℕ). feed_left_by n report log) e)
+kept_as report log k e = go (feed_refusal report log) e
+  where
+    go : (n : ℕ) → Err k ≡ feed_answer_by n → report ≡ feed_left_by n report log
+    go zero e = absurd (let z : ◌≡◌ {A = ℕ} 0 1 = cc in omega arith)
+    go (suc n) e = refl
+
+-- the answer of each number
+pub answer_none : (report log : List ℕ) → 0 ≡ feed_refusal report log → Ok tt ≡ feed_answer report log
+unfolding feed_answer feed_answer_by
+answer_none report log e = ap feed_answer_by e
+
+pub answer_log : (report log : List ℕ) → 1 ≡ feed_refusal report log → Err log_size ≡ feed_answer report log
+unfolding feed_answer feed_answer_by refusal_of
+answer_log report log e = ap feed_answer_by e
+
+pub answer_report : (report log : List ℕ) → 6 ≡ feed_refusal report log → Err not_arranged ≡ feed_answer report log
+unfolding feed_answer feed_answer_by refusal_of
+answer_report report log e = ap feed_answer_by e
+
+pub answer_full : (report log : List ℕ) → 17 ≡ feed_refusal report log → Err report_full ≡ feed_answer report log
+unfolding feed_answer feed_answer_by refusal_of
+answer_full report log e = ap feed_answer_by e
 
 -- ---- a log counted in
 
@@ -107,27 +131,22 @@ module _ (report log : List ℕ) (p : FeedPassed report log) where
 
 -- ---- numbers and means
 
-pub number_some : (n : ℕ) → (n ≡ 0 → ⊥) → n ≡ feed_number (refused n)
-unfolding feed_number
-number_some zero h = absurd (h refl)
-number_some (suc n) h = refl
-
 pub mean_some : (n bytes : ℕ) → (n ≡ 0 → ⊥) → mean (bytes / n) (bytes % n) n ≡ mean_of n bytes
 unfolding mean_of
 mean_some zero bytes h = absurd (h refl)
 mean_some (suc n) bytes h = refl
 
-pub mean_none : (n bytes : ℕ) → n ≡ 0 → nothing ≡ mean_of n bytes
+pub mean_none : (n bytes : ℕ) → n ≡ 0 → None ≡ mean_of n bytes
 unfolding mean_of
 mean_none n bytes e = sym (ap (λ (n : ℕ). mean_of n bytes) e)
 
-pub mean_refused : (report : List ℕ) → report_arranged report ≡ false → no_mean 6 ≡ mean_answer report
+pub mean_refused : (report : List ℕ) → report_arranged report ≡ false → Err not_arranged ≡ mean_answer report
 unfolding mean_answer
 mean_refused report e =
-    sym (ap (λ (a : Bool). cond a (mean_of (sound_frames (report_numbers report)) (get_or (report_numbers report) 11 0)) (no_mean 6)) e)
+    sym (ap (λ (a : Bool). cond a (Ok (mean_of (sound_frames (report_numbers report)) (get_or (report_numbers report) 11 0))) (Err not_arranged)) e)
 
-pub mean_given : (report : List ℕ) (m : MeanAnswer) → report_arranged report ≡ true
-    → m ≡ mean_of (sound_frames (report_numbers report)) (get_or (report_numbers report) 11 0) → m ≡ mean_answer report
+pub mean_given : (report : List ℕ) (m : Option MeanLength) → report_arranged report ≡ true
+    → m ≡ mean_of (sound_frames (report_numbers report)) (get_or (report_numbers report) 11 0) → Ok m ≡ mean_answer report
 unfolding mean_answer
 mean_given report m e f =
-    f ∙ sym (ap (λ (a : Bool). cond a (mean_of (sound_frames (report_numbers report)) (get_or (report_numbers report) 11 0)) (no_mean 6)) e)
+    ap Ok f ∙ sym (ap (λ (a : Bool). cond a (Ok (mean_of (sound_frames (report_numbers report)) (get_or (report_numbers report) 11 0))) (Err not_arranged)) e)

@@ -88,36 +88,6 @@ pub numbers_small : (report ws : List ℕ) → report_arranged report ≡ true �
 numbers_small report ws a e i =
     omega (arith, ok_small (report_numbers report) (length-numbers report) (report_ok report a).numbers i, ap (λ (l : List ℕ). get_or l i 0) e)
 
--- ---- the tests of the layout, as the code makes them
-
-arranged_by_lem : (ws : List ℕ) (a b : Bool) → leb (get_or ws 0 0) most_logs ≡ a → all_within (get_or ws 0 0 * most_frames) (take 10 (drop 1 ws)) ≡ b
-    → a && (b && leb (get_or ws 11 0) (get_or ws 0 0 * most_data)) ≡ numbers_arranged ws
-unfolding numbers_arranged
-arranged_by_lem ws a b ea eb = sym (ap₂ (λ (a b : Bool). a && (b && leb (get_or ws 11 0) (get_or ws 0 0 * most_data))) ea eb)
-
-pub logs_over : (ws : List ℕ) → most_logs < get_or ws 0 0 → false ≡ numbers_arranged ws
-logs_over ws h = arranged_by_lem ws false _ (lt-leb (get_or ws 0 0) most_logs h) refl
-
-pub frames_over : (ws : List ℕ) (b : Bool) → b ≡ all_within (get_or ws 0 0 * most_frames) (take 10 (drop 1 ws)) → b ≡ false → false ≡ numbers_arranged ws
-frames_over ws b e h = go (leb (get_or ws 0 0) most_logs) refl
-  where
-    go : (a : Bool) → leb (get_or ws 0 0) most_logs ≡ a → false ≡ numbers_arranged ws
-    go true f = arranged_by_lem ws true false f (sym e ∙ h)
-    go false f = arranged_by_lem ws false false f (sym e ∙ h)
-
-pub bytes_decide : (ws : List ℕ) (b : Bool) → get_or ws 0 0 ≤ most_logs → b ≡ all_within (get_or ws 0 0 * most_frames) (take 10 (drop 1 ws)) → b ≡ true
-    → leb (get_or ws 11 0) (get_or ws 0 0 * most_data) ≡ numbers_arranged ws
-bytes_decide ws b l e h = arranged_by_lem ws true true (le-leb (get_or ws 0 0) most_logs l) (sym e ∙ h)
-
-pub report_short : (report : List ℕ) → (length report ≡ 96 → ⊥) → false ≡ report_arranged report
-unfolding report_arranged
-report_short report h = sym (ap (λ (b : Bool). b && numbers_arranged (report_numbers report)) (ne_eqb (length report) 96 h))
-
-pub report_by : (report ws : List ℕ) (b : Bool) → length report ≡ 96 → ws ≡ report_numbers report → b ≡ numbers_arranged ws → b ≡ report_arranged report
-unfolding report_arranged
-report_by report ws b l e f =
-    f ∙ ap numbers_arranged e ∙ sym (ap (λ (b : Bool). b && numbers_arranged (report_numbers report)) (eq-eqb (length report) 96 l))
-
 pub full_by : (n m : ℕ) → n ≡ m → most_logs ≤ n → leb most_logs m ≡ true
 full_by n m e h = le-leb most_logs m (omega arith)
 

@@ -11,7 +11,7 @@ use borrow.Author.Tests.{leb-true, leb-false}
 use Rattle.frame.specs.declared.FrameType.TheVariants.{Full as full, First as first, Middle as middle, Last as last}
 use Rattle.calls.specs.Refusals.{log_refused}
 use Rattle.report_frames.specs.declared.Seen.{Seen}
-use Rattle.report_frames.specs.declared.Seen.TheVariants.{Right as right, Wrong as wrong, Unreadable as unreadable, OverLong as over_long, EndOfLog as end_of_log}
+use Rattle.report_frames.specs.declared.Seen.TheVariants.{Right as right, Wrong as wrong, Unreadable as unreadable, OverLong as over_long}
 use Rattle.report_frames.specs.Seen.{frames_read}
 use Rattle.report_frames.specs.Tally.{row_of, is_right, one, times, tally}
 use Rattle.report_count.specs.Sums.{plus}
@@ -175,7 +175,6 @@ one_sound (right last n) = refl
 one_sound (wrong t) = refl
 one_sound unreadable = refl
 one_sound over_long = refl
-one_sound end_of_log = refl
 
 all_sound : (ss : List Seen) → times (is_right 0) ss + times (is_right 1) ss + times (is_right 2) ss + times (is_right 3) ss ≡ times is_sound ss
 unfolding times

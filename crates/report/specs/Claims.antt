@@ -1,18 +1,17 @@
 -- Claim.
 -- What is claimed of a report over a box of cards; each is proved in proofs/ under the same name in snake case.
 -- Assumes nothing.
-use Rattle.std.specs.Prelude.{◌≡◌, ◌⊎◌, Bool, true, false, cond, List, [], ◌∷◌, ℕ, zero, suc, ◌+◌, ◌≤◌, ◌<◌, ◌^◌, leb, length, get_or, take, replicate}
+use Rattle.std.specs.Prelude.{None, Ok, ◌≡◌, ◌⊎◌, Bool, true, false, cond, List, [], ◌∷◌, ℕ, zero, suc, ◌+◌, ◌≤◌, ◌<◌, ◌^◌, leb, length, get_or, take, replicate}
 use Rattle.slices.specs.Bytes.{zeros}
 use Rattle.calls.specs.Refusals.{refuse_if, log_refused}
 use Rattle.calls.specs.Claims.{LowestOf}
 use Rattle.report_frames.specs.declared.Seen.{Seen}
-use Rattle.report_frames.specs.declared.Seen.TheVariants.{Right as right, Wrong as wrong, Unreadable as unreadable, OverLong as over_long, EndOfLog as end_of_log}
+use Rattle.report_frames.specs.declared.Seen.TheVariants.{Right as right, Wrong as wrong, Unreadable as unreadable, OverLong as over_long}
 use Rattle.report_frames.specs.Seen.{frames_read}
 use Rattle.report_frames.specs.Tally.{times, data_bytes, tally}
 use Rattle.report_count.specs.Sums.{plus}
-use Rattle.report.specs.declared.MeanAnswer.TheVariants.{Mean as mean, Nothing as nothing}
 use Rattle.report.specs.Layout.{report_length, report_numbers, most_logs, numbers_arranged, report_arranged}
-use Rattle.report.specs.Feed.{feed_refusals, feed_refusal, feed_left, mean_of, mean_answer}
+use Rattle.report.specs.Feed.{feed_refusals, feed_refusal, feed_left, mean, mean_of, mean_answer}
 
 -- ---- feedings
 
@@ -65,7 +64,6 @@ is_sound (right t n) = true
 is_sound (wrong t) = false
 is_sound unreadable = false
 is_sound over_long = false
-is_sound end_of_log = false
 
 unfoldable pub sound_sum : List (List ℕ) → ℕ
 sound_sum [] = 0
@@ -78,7 +76,7 @@ data_sum (log ∷ logs) = data_bytes (frames_read log) + data_sum logs
 -- "and the mean is that of the sums"
 abbrev pub ReportMean : Type 0
 ReportMean = (logs : List (List ℕ))
-    → mean_answer (feed_all empty_report logs) ≡ mean_of (sound_sum (logs_kept empty_report logs)) (data_sum (logs_kept empty_report logs))
+    → mean_answer (feed_all empty_report logs) ≡ Ok (mean_of (sound_sum (logs_kept empty_report logs)) (data_sum (logs_kept empty_report logs)))
 
 -- ---- the layout
 
@@ -108,7 +106,7 @@ ReportRefused = (report log : List ℕ) → 0 < feed_refusal report log → feed
 -- ---- small ones, computed
 
 pub record ReportExamples : Type 0 where
-  pub none : mean_of 0 0 ≡ nothing
+  pub none : mean_of 0 0 ≡ None
   pub empty_frames : mean_of 5 0 ≡ mean 0 0 5
   pub some : mean_of 3 711 ≡ mean 237 0 3
   pub rest : mean_of 4 711 ≡ mean 177 3 4

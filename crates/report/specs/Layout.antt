@@ -2,6 +2,7 @@
 -- A report as bytes, and when it is arranged: "A report that isn't as docs/LAYOUT.md defines is 6".
 -- Assumes nothing.
 use Rattle.std.specs.Prelude.{Bool, true, ◌&&◌, List, [], ◌∷◌, ◌++◌, ℕ, ◌*◌, leb, eqb, length, get_or, take, drop}
+use Rattle.std.specs.List.{list_all}
 use Rattle.fields.specs.Le.{le_bytes}
 use Rattle.abi_queues.specs.Words.{words_from}
 
@@ -30,8 +31,7 @@ most_data = 134217728
 
 -- each of the numbers is at most m
 unfoldable pub all_within : ℕ → List ℕ → Bool
-all_within m [] = true
-all_within m (x ∷ xs) = leb x m && all_within m xs
+all_within m xs = list_all (λ x. leb x m) xs
 
 -- no more logs than a report takes, each of the ten counts of frames no more than so many logs can have, and the bytes of data neither
 unfoldable pub numbers_arranged : List ℕ → Bool

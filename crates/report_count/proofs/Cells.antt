@@ -13,7 +13,7 @@ use borrow.Author.Tests.{eq-eqb, ne_eqb}
 use Rattle.frame.specs.declared.FrameType.{FrameType}
 use Rattle.frame.specs.declared.FrameType.TheVariants.{Full as full, First as first, Middle as middle, Last as last}
 use Rattle.report_frames.specs.declared.Seen.{Seen}
-use Rattle.report_frames.specs.declared.Seen.TheVariants.{Right as right, Wrong as wrong, Unreadable as unreadable, OverLong as over_long, EndOfLog as end_of_log}
+use Rattle.report_frames.specs.declared.Seen.TheVariants.{Right as right, Wrong as wrong, Unreadable as unreadable, OverLong as over_long}
 use Rattle.report_frames.specs.Tally.{row_of, is_right, is_wrong, one}
 use Rattle.report_count.specs.Table.{is_of, side, cell, counted, count_seen, table_of, Shaped, CellsFit}
 
@@ -108,8 +108,6 @@ seen-counted t unreadable j true w h = none_more (cell t j true)
 seen-counted t unreadable j false w h = none_more (cell t j false)
 seen-counted t over_long j true w h = none_more (cell t j true)
 seen-counted t over_long j false w h = none_more (cell t j false)
-seen-counted t end_of_log j true w h = none_more (cell t j true)
-seen-counted t end_of_log j false w h = none_more (cell t j false)
 
 pub seen_shaped : (t : List (List ℕ)) (s : Seen) → Shaped t → Shaped (count_seen t s)
 unfolding count_seen
@@ -117,7 +115,6 @@ seen_shaped t (right u n) w = counted_shaped t (row_of u) true w
 seen_shaped t (wrong u) w = counted_shaped t (row_of u) false w
 seen_shaped t unreadable w = w
 seen_shaped t over_long w = w
-seen_shaped t end_of_log w = w
 
 pub table_shaped : (ws : List ℕ) → Shaped (table_of ws)
 unfolding table_of

@@ -2,6 +2,7 @@
 -- Assumes nothing.
 use mathlib.Core.Path.{◌≡◌, refl, sym, ap, subst, ◌∙◌}
 use mathlib.Core.Bool.{Bool, true, false}
+use Rattle.std.specs.Prelude.{Some, None}
 use mathlib.Core.List.{List, [], ◌∷◌}
 use Prim.Native.Nat.{ℕ, zero, suc, ◌+◌, ◌*◌, ◌≤◌, ◌<◌}
 use native.Mathlib.Omega.{arith}
@@ -13,8 +14,8 @@ use Rattle.frame.specs.Block.{blocks}
 use Rattle.frame.specs.Reader.{fresh, read_frame, ahead}
 use Rattle.frame.specs.Internal.{Arranged}
 use Rattle.report_frames.specs.declared.Seen.{Seen}
-use Rattle.report_frames.specs.declared.Seen.TheVariants.{Right as right, Wrong as wrong, Unreadable as unreadable, OverLong as over_long, EndOfLog as end_of_log}
-use Rattle.report_frames.specs.Seen.{seen, is_end, frames_ahead, frames_read}
+use Rattle.report_frames.specs.declared.Seen.TheVariants.{Right as right, Wrong as wrong, Unreadable as unreadable, OverLong as over_long}
+use Rattle.report_frames.specs.Seen.{seen, frames_ahead, frames_read}
 use Rattle.report_frames.specs.Tally.{is_unreadable, is_over_long, data_in, one, times, data_bytes, tally}
 use Rattle.report_frames.proofs.Ahead.{left_arranged, fewer, none_ahead, one_ahead}
 use Rattle.report_frames.proofs.Claims.{fresh-arranged}
@@ -35,7 +36,6 @@ unreadable_more o (right u n) = omega arith
 unreadable_more o (wrong u) = omega arith
 unreadable_more o unreadable = omega arith
 unreadable_more o over_long = omega arith
-unreadable_more o end_of_log = omega arith
 
 pub over_long_more : (o : Others) (s : Seen) → (count_others o s).over_long ≡ o.over_long + one (is_over_long s)
 unfolding count_others is_over_long one
@@ -43,7 +43,6 @@ over_long_more o (right u n) = omega arith
 over_long_more o (wrong u) = omega arith
 over_long_more o unreadable = omega arith
 over_long_more o over_long = omega arith
-over_long_more o end_of_log = omega arith
 
 pub data_more : (o : Others) (s : Seen) → (count_others o s).«data» ≡ o.«data» + data_in s
 unfolding count_others data_in
@@ -51,7 +50,6 @@ data_more o (right u n) = omega arith
 data_more o (wrong u) = omega arith
 data_more o unreadable = omega arith
 data_more o over_long = omega arith
-data_more o end_of_log = omega arith
 
 -- a report's numbers ws, and this log: the table t, the other counts o and the reader r on the way
 pub record Counting (ws log : List ℕ) (t : List (List ℕ)) (o : Others) (r : Reader) : Type 0 where
@@ -81,10 +79,10 @@ start ws log t o r h et eo er = cast (record {
         (subst (λ (r : Reader). Counting ws log (table_of ws) (others_of ws) r) (sym er) w))
 
 -- a frame more
-pub turn : (ws log : List ℕ) (t u : List (List ℕ)) (o p : Others) (r q : Reader) (s : Seen) → Counting ws log t o r → s ≡ seen log r → is_end s ≡ false
+pub turn : (ws log : List ℕ) (t u : List (List ℕ)) (o p : Others) (r q : Reader) (s : Seen) → Counting ws log t o r → seen log r ≡ Some s
     → u ≡ count_seen t s → p ≡ count_others o s → q ≡ (read_frame log r).reader → Counting ws log u p q
 unfolding times data_bytes
-turn ws log t u o p r q s w es e eu ep eq =
+turn ws log t u o p r q s w es eu ep eq =
     cast (record {
       arranged = left_arranged log r w.arranged;
       shaped = seen_shaped t s w.shaped;
@@ -95,18 +93,16 @@ turn ws log t u o p r q s w es e eu ep eq =
     })
   where
     f : frames_ahead log r ≡ s ∷ frames_ahead log (read_frame log r).reader
-    f =
-        one_ahead log r w.arranged (ap is_end (sym es) ∙ e)
-        ∙ ap (λ (x : Seen). x ∷ frames_ahead log (read_frame log r).reader) (sym es)
+    f = one_ahead log r w.arranged s es
 
     cast : Counting ws log (count_seen t s) (count_others o s) (read_frame log r).reader → Counting ws log u p q
     cast v = subst (λ (t : List (List ℕ)). Counting ws log t p q) (sym eu)
         (subst (λ (o : Others). Counting ws log (count_seen t s) o q) (sym ep)
         (subst (λ (r : Reader). Counting ws log (count_seen t s) (count_others o s) r) (sym eq) v))
 
-pub falls : (ws log : List ℕ) (t : List (List ℕ)) (o : Others) (r q : Reader) (s : Seen) → Counting ws log t o r → s ≡ seen log r → is_end s ≡ false
+pub falls : (ws log : List ℕ) (t : List (List ℕ)) (o : Others) (r q : Reader) (s : Seen) → Counting ws log t o r → seen log r ≡ Some s
     → q ≡ (read_frame log r).reader → ahead log q < ahead log r
-falls ws log t o r q s w es e eq = omega (arith, fewer log r w.arranged (ap is_end (sym es) ∙ e), ap (ahead log) eq)
+falls ws log t o r q s w es eq = omega (arith, fewer log r w.arranged s es, ap (ahead log) eq)
 
 -- ---- no number passes its bound on the way
 
@@ -141,18 +137,16 @@ cells_fit ws log t o r n w k b h =
     omega (arith, w.cells k b h, cell_end ws (frames_read log) k b h, n.small (number_at k b))
 
 pub others_fit : (ws log : List ℕ) (t : List (List ℕ)) (o : Others) (r : Reader) (s : Seen) → NumbersFit ws log → Counting ws log t o r
-    → s ≡ seen log r → is_end s ≡ false → OthersFit o s
+    → seen log r ≡ Some s → OthersFit o s
 unfolding data_bytes
-others_fit ws log t o r s n w es e = record {
+others_fit ws log t o r s n w es = record {
   unreadable = omega (arith, w.unread, unread_end ws (frames_read log), n.small 9);
   over_long = omega (arith, w.long, long_end ws (frames_read log), n.small 10);
   bytes = omega (arith, w.bytes, bytes_end ws (frames_read log), n.small 11, ap data_bytes f);
 }
   where
     f : frames_ahead log r ≡ s ∷ frames_ahead log (read_frame log r).reader
-    f =
-        one_ahead log r w.arranged (ap is_end (sym es) ∙ e)
-        ∙ ap (λ (x : Seen). x ∷ frames_ahead log (read_frame log r).reader) (sym es)
+    f = one_ahead log r w.arranged s es
 
 pub logs_fit : (ws log : List ℕ) → NumbersFit ws log → get_or ws 0 0 < 18446744073709551615
 unfolding tally
@@ -160,14 +154,14 @@ logs_fit ws log n = omega (arith, n.small 0, get_d_plus ws (tally (frames_read l
 
 -- ---- the end
 
-pub end : (ws log : List ℕ) (t : List (List ℕ)) (o : Others) (r : Reader) (s : Seen) → length ws ≡ 12 → Counting ws log t o r
-    → s ≡ seen log r → is_end s ≡ true → numbers_of (get_or ws 0 0 + 1) t o ≡ plus ws (tally (frames_read log))
+pub end : (ws log : List ℕ) (t : List (List ℕ)) (o : Others) (r : Reader) → length ws ≡ 12 → Counting ws log t o r
+    → seen log r ≡ None → numbers_of (get_or ws 0 0 + 1) t o ≡ plus ws (tally (frames_read log))
 unfolding numbers_of times data_bytes tally number_at
-end ws log t o r s n w es e =
+end ws log t o r n w es =
     ext_get_or 0 (numbers_of (get_or ws 0 0 + 1) t o) (plus ws (tally (frames_read log))) (sym (length-plus ws (tally (frames_read log)) n ∙ n)) at
   where
     f : frames_ahead log r ≡ []
-    f = none_ahead log r w.arranged (ap is_end (sym es) ∙ e)
+    f = none_ahead log r w.arranged es
 
     of_cell : (k : ℕ) (b : Bool) → k < 4 → cell t k b ≡ get_or (plus ws (tally (frames_read log))) (number_at k b) 0
     of_cell k b h = omega (arith, w.cells k b h, ap (times (is_of k b)) f, cell_end ws (frames_read log) k b h)

@@ -3,7 +3,7 @@
 -- Assumes nothing.
 use Rattle.std.specs.Prelude.{◌≡◌, Bool, true, false, List, [], ◌∷◌, ℕ, ◌+◌, ◌<◌, length, get_or, set}
 use Rattle.report_frames.specs.declared.Seen.{Seen}
-use Rattle.report_frames.specs.declared.Seen.TheVariants.{Right as right, Wrong as wrong, Unreadable as unreadable, OverLong as over_long, EndOfLog as end_of_log}
+use Rattle.report_frames.specs.declared.Seen.TheVariants.{Right as right, Wrong as wrong, Unreadable as unreadable, OverLong as over_long}
 use Rattle.report_frames.specs.Seen.{frames_read}
 use Rattle.report_frames.specs.Tally.{row_of, is_right, is_wrong, data_in, tally}
 use Rattle.report_count.specs.declared.Others.{Others}
@@ -32,7 +32,6 @@ count_seen t (right u n) = counted t (row_of u) true
 count_seen t (wrong u) = counted t (row_of u) false
 count_seen t unreadable = t
 count_seen t over_long = t
-count_seen t end_of_log = t
 
 abbrev pub others : ℕ → ℕ → ℕ → Others
 others u l n = record { unreadable = u; over_long = l; «data» = n }
@@ -43,7 +42,6 @@ count_others o (right u n) = others o.unreadable o.over_long (o.«data» + n)
 count_others o (wrong u) = o
 count_others o unreadable = others (o.unreadable + 1) o.over_long o.«data»
 count_others o over_long = others o.unreadable (o.over_long + 1) o.«data»
-count_others o end_of_log = o
 
 -- the twelve numbers taken apart, and put together again
 unfoldable pub table_of : List ℕ → List (List ℕ)

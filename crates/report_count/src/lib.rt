@@ -4,7 +4,7 @@
 ghost use Rattle.std.specs.Prelude.{◌≡◌, ◌+◌, ◌≤◌, ◌<◌, [], length, get_or, set};
 ghost use Rattle.crc32.specs.Wide.{TableReady};
 ghost use Rattle.frame.specs.Block.{blocks};
-ghost use Rattle.report_frames.specs.Seen.{is_end, frames_read};
+ghost use Rattle.report_frames.specs.Seen.{frames_read};
 ghost use Rattle.report_frames.specs.Tally.{row_of, tally};
 ghost use Rattle.report_count.specs.Sums.{plus};
 ghost use Rattle.report_count.specs.Table.{counted, count_seen, count_others, table_of, others_of, numbers_of};
@@ -57,6 +57,7 @@ fn count(table: [[u64; 2]; 4], kind: FrameType, right: bool) -> [[u64; 2]; 4]
 }
 
 // The table after a frame.
+#[tactic(auto, unfolding(crate::specs::Table::count_seen))]
 fn count_seen(table: [[u64; 2]; 4], seen: Seen) -> [[u64; 2]; 4]
     requires { CellsFit table }
     ensures { result ≡ count_seen table seen }
@@ -64,51 +65,36 @@ fn count_seen(table: [[u64; 2]; 4], seen: Seen) -> [[u64; 2]; 4]
     match seen {
         Seen::Right { kind, len: _ } => count(table, kind, true),
         Seen::Wrong(kind) => count(table, kind, false),
-        Seen::Unreadable => table,
-        Seen::OverLong => table,
-        Seen::EndOfLog => table,
+        Seen::Unreadable | Seen::OverLong => table,
     }
 }
 
 // The other counts after a frame.
+#[tactic(auto, unfolding(crate::specs::Table::count_others))]
 fn count_others(others: Others, seen: Seen) -> Others
     requires { OthersFit others seen }
     ensures { result ≡ count_others others seen }
 {
     match seen {
         Seen::Right { kind: _, len } => Others {
-            unreadable: others.unreadable,
-            over_long: others.over_long,
             data: others.data + len as u64,
+            ..others
         },
         Seen::Wrong(_) => others,
         Seen::Unreadable => Others {
             unreadable: others.unreadable + 1,
-            over_long: others.over_long,
-            data: others.data,
+            ..others
         },
         Seen::OverLong => Others {
-            unreadable: others.unreadable,
             over_long: others.over_long + 1,
-            data: others.data,
+            ..others
         },
-        Seen::EndOfLog => others,
-    }
-}
-
-fn is_end(seen: Seen) -> bool
-    ensures { result ≡ is_end seen }
-{
-    match seen {
-        Seen::EndOfLog => true,
-        Seen::Right { kind: _, len: _ } => false,
-        Seen::Wrong(_) => false,
-        Seen::Unreadable => false,
-        Seen::OverLong => false,
     }
 }
 
 // The table that the numbers hold.
+// Kept: no plainer: count_log takes any slice of twelve numbers, and would copy them into an array first, for two clauses fewer.
+#[tactic(auto, unfolding(crate::specs::Table::table_of))]
 fn table_of(numbers: &[u64]) -> [[u64; 2]; 4]
     requires { length numbers.now ≡ 12 }
     ensures { result ≡ table_of numbers.now }
@@ -121,6 +107,9 @@ fn table_of(numbers: &[u64]) -> [[u64; 2]; 4]
     ]
 }
 
+// The other counts that they hold.
+// Kept: no plainer: a slice, as in table_of.
+#[tactic(auto, unfolding(crate::specs::Table::others_of))]
 fn others_of(numbers: &[u64]) -> Others
     requires { length numbers.now ≡ 12 }
     ensures { result ≡ others_of numbers.now }
@@ -132,6 +121,7 @@ fn others_of(numbers: &[u64]) -> Others
     }
 }
 
+#[tactic(auto, unfolding(crate::specs::Table::numbers_of, crate::specs::Table::cell))]
 fn numbers_of(logs: u64, table: [[u64; 2]; 4], others: Others) -> [u64; 12]
     ensures { result ≡ numbers_of logs table others }
 {
@@ -159,12 +149,13 @@ pub fn count_log(crc: &[u32], log: &[u8], numbers: &[u64]) -> [u64; 12]
     let mut table = table_of(numbers);
     let mut others = others_of(numbers);
     let mut reader = Reader::new();
+    // Kept: no plainer, `while let` would read a frame at two places, before the loop and at its end.
     loop {
         let sight = see(crc, log, reader);
-        let seen = sight.seen;
-        if is_end(seen) {
+        let Some(seen) = sight.seen else {
             break;
-        }
+        };
+        // Kept: an array that a call answers goes through a name of its own, since the proof covers no answer laid straight into a variable that is changed.
         let next = count_seen(table, seen);
         table = next;
         others = count_others(others, seen);

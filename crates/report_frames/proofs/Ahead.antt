@@ -1,80 +1,83 @@
 -- The frames ahead of a reader: one less with each, none at the end of log; how many there can be, and how many bytes of data.
 -- Assumes nothing.
-use mathlib.Core.Path.{◌≡◌, refl, sym, ap, ◌∙◌}
-use mathlib.Core.Bool.{Bool, true, false, cond, false≢true}
+use mathlib.Core.Path.{◌≡◌, refl, ap, ◌∙◌}
+use mathlib.Core.Bool.{Bool, true, false}
+use Rattle.std.specs.Prelude.{Option, Some, None}
 use mathlib.Core.List.{List, [], ◌∷◌}
 use Prim.Native.Nat.{ℕ, zero, suc, ◌≤◌, ◌<◌}
 use native.Mathlib.Omega.{arith}
 use lib.ListN.{length}
 use Rattle.frame.specs.declared.Reader.{Reader}
-use Rattle.frame.specs.declared.FrameAnswer.TheVariants.{NotAvailable as not_available}
+use Rattle.frame.specs.Reader.{not_available}
 use Rattle.frame.specs.Reader.{read_frame, ahead}
 use Rattle.frame.specs.Internal.{Arranged}
 use Rattle.frame.proofs.Measure.{onward, ahead_falls}
 use Rattle.report_frames.specs.declared.Seen.{Seen}
-use Rattle.report_frames.specs.Seen.{type_said, seen_as, seen, is_end, frames_from, frames_ahead}
+use Rattle.report_frames.specs.Seen.{type_said, seen_as, seen, frames_then, frames_from, frames_ahead}
 use Rattle.report_frames.specs.Tally.{one, times}
 
 module _ (log : List ℕ) where
   -- where the next frame is not the end of log
-  going : (r : Reader) → is_end (seen log r) ≡ false → (read_frame log r).answer ≡ not_available → ⊥
-  unfolding seen seen_as is_end
-  going r h e = false≢true (sym h ∙ ap (λ a. is_end (seen_as (type_said log r) a)) e)
+  going : (r : Reader) (s : Seen) → seen log r ≡ Some s → (read_frame log r).answer ≡ not_available → ⊥
+  unfolding seen seen_as
+  going r s h e =
+      let n : seen_as (type_said log r) (read_frame log r).answer ≡ None = ap (seen_as (type_said log r)) e in
+      let z : ◌≡◌ {A = ℕ} 0 1 = cc in omega arith
 
   pub left_arranged : (r : Reader) → Arranged log r → Arranged log (read_frame log r).reader
   left_arranged r a = (onward log r a).arranged
 
-  pub fewer : (r : Reader) → Arranged log r → is_end (seen log r) ≡ false → ahead log (read_frame log r).reader < ahead log r
-  fewer r a h = ahead_falls log r a (going r h)
+  pub fewer : (r : Reader) → Arranged log r → (s : Seen) → seen log r ≡ Some s → ahead log (read_frame log r).reader < ahead log r
+  fewer r a s h = ahead_falls log r a (going r s h)
 
   -- any two numbers of turns that suffice give the same frames
   pub same : (j k : ℕ) (r : Reader) → Arranged log r → ahead log r ≤ j → ahead log r ≤ k → frames_from j log r ≡ frames_from k log r
-  unfolding frames_from
+  unfolding frames_from frames_then
   same zero zero r a hj hk = refl
-  same zero (suc k) r a hj hk = none (is_end (seen log r)) refl
+  same zero (suc k) r a hj hk = none (seen log r) refl
     where
-      none : (b : Bool) → is_end (seen log r) ≡ b → [] ≡ cond b [] (seen log r ∷ frames_from k log (read_frame log r).reader)
-      none true e = refl
-      none false e = absurd (omega (arith, fewer r a e))
-  same (suc j) zero r a hj hk = none (is_end (seen log r)) refl
+      none : (x : Option Seen) → seen log r ≡ x → [] ≡ frames_then x (frames_from k log (read_frame log r).reader)
+      none None e = refl
+      none (Some s) e = absurd (omega (arith, fewer r a s e))
+  same (suc j) zero r a hj hk = none (seen log r) refl
     where
-      none : (b : Bool) → is_end (seen log r) ≡ b → cond b [] (seen log r ∷ frames_from j log (read_frame log r).reader) ≡ []
-      none true e = refl
-      none false e = absurd (omega (arith, fewer r a e))
+      none : (x : Option Seen) → seen log r ≡ x → frames_then x (frames_from j log (read_frame log r).reader) ≡ []
+      none None e = refl
+      none (Some s) e = absurd (omega (arith, fewer r a s e))
   same (suc j) (suc k) r a hj hk =
-      step (is_end (seen log r)) refl
-      (λ e. same j k (read_frame log r).reader (left_arranged r a) (omega (arith, fewer r a e)) (omega (arith, fewer r a e)))
+      step (seen log r) refl
+      (λ s e. same j k (read_frame log r).reader (left_arranged r a) (omega (arith, fewer r a s e)) (omega (arith, fewer r a s e)))
     where
-      step : (b : Bool) → is_end (seen log r) ≡ b
-          → (is_end (seen log r) ≡ false → frames_from j log (read_frame log r).reader ≡ frames_from k log (read_frame log r).reader)
-          → cond b [] (seen log r ∷ frames_from j log (read_frame log r).reader) ≡ cond b [] (seen log r ∷ frames_from k log (read_frame log r).reader)
-      step true e go = refl
-      step false e go = ap (λ (ss : List Seen). seen log r ∷ ss) (go e)
+      step : (x : Option Seen) → seen log r ≡ x
+          → ((s : Seen) → seen log r ≡ Some s → frames_from j log (read_frame log r).reader ≡ frames_from k log (read_frame log r).reader)
+          → frames_then x (frames_from j log (read_frame log r).reader) ≡ frames_then x (frames_from k log (read_frame log r).reader)
+      step None e go = refl
+      step (Some s) e go = ap (λ (ss : List Seen). s ∷ ss) (go s e)
 
-  pub none_ahead : (r : Reader) → Arranged log r → is_end (seen log r) ≡ true → frames_ahead log r ≡ []
-  unfolding frames_ahead frames_from
+  pub none_ahead : (r : Reader) → Arranged log r → seen log r ≡ None → frames_ahead log r ≡ []
+  unfolding frames_ahead frames_from frames_then
   none_ahead r a e =
       same (ahead log r) (suc (ahead log r)) r a (omega arith) (omega arith)
-      ∙ ap (λ (b : Bool). cond b [] (seen log r ∷ frames_from (ahead log r) log (read_frame log r).reader)) e
+      ∙ ap (λ (x : Option Seen). frames_then x (frames_from (ahead log r) log (read_frame log r).reader)) e
 
-  pub one_ahead : (r : Reader) → Arranged log r → is_end (seen log r) ≡ false
-      → frames_ahead log r ≡ seen log r ∷ frames_ahead log (read_frame log r).reader
-  unfolding frames_ahead frames_from
-  one_ahead r a e =
+  pub one_ahead : (r : Reader) → Arranged log r → (s : Seen) → seen log r ≡ Some s
+      → frames_ahead log r ≡ s ∷ frames_ahead log (read_frame log r).reader
+  unfolding frames_ahead frames_from frames_then
+  one_ahead r a s e =
       same (ahead log r) (suc (ahead log r)) r a (omega arith) (omega arith)
-      ∙ ap (λ (b : Bool). cond b [] (seen log r ∷ frames_from (ahead log r) log (read_frame log r).reader)) e
-      ∙ ap (λ (ss : List Seen). seen log r ∷ ss)
-      (same (ahead log r) (ahead log (read_frame log r).reader) (read_frame log r).reader (left_arranged r a) (omega (arith, fewer r a e)) (omega arith))
+      ∙ ap (λ (x : Option Seen). frames_then x (frames_from (ahead log r) log (read_frame log r).reader)) e
+      ∙ ap (λ (ss : List Seen). s ∷ ss)
+      (same (ahead log r) (ahead log (read_frame log r).reader) (read_frame log r).reader (left_arranged r a) (omega (arith, fewer r a s e)) (omega arith))
 
   pub most_frames_lem : (k : ℕ) (r : Reader) → length (frames_from k log r) ≤ k
-  unfolding frames_from
+  unfolding frames_from frames_then
   most_frames_lem zero r = omega arith
-  most_frames_lem (suc k) r = step (is_end (seen log r)) (most_frames_lem k (read_frame log r).reader)
+  most_frames_lem (suc k) r = step (seen log r) (most_frames_lem k (read_frame log r).reader)
     where
-      step : (b : Bool) → length (frames_from k log (read_frame log r).reader) ≤ k
-          → length (cond b [] (seen log r ∷ frames_from k log (read_frame log r).reader)) ≤ suc k
-      step true h = omega arith
-      step false h = omega arith
+      step : (x : Option Seen) → length (frames_from k log (read_frame log r).reader) ≤ k
+          → length (frames_then x (frames_from k log (read_frame log r).reader)) ≤ suc k
+      step None h = omega arith
+      step (Some s) h = omega arith
 
 one_small : (b : Bool) → one b ≤ 1
 unfolding one

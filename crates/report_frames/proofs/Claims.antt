@@ -1,15 +1,16 @@
 -- The claims.
 -- Assumes nothing.
 use mathlib.Core.Path.{◌≡◌, refl}
-use mathlib.Core.Bool.{Bool, true, false, cond}
-use mathlib.Core.List.{List, [], ◌∷◌}
+use mathlib.Core.List.{List}
 use Prim.Native.Nat.{ℕ, zero, suc, ◌+◌, ◌*◌, ◌≤◌}
 use native.Mathlib.Omega.{arith}
 use Rattle.frame.specs.declared.Reader.{Reader}
 use Rattle.frame.specs.Block.{blocks}
 use Rattle.frame.specs.Reader.{fresh, place, read_frame, ahead}
 use Rattle.frame.specs.Internal.{Arranged}
-use Rattle.report_frames.specs.Seen.{seen, is_end, frames_from, frames_ahead, frames_read}
+use Rattle.std.specs.Prelude.{Option, Some, None}
+use Rattle.report_frames.specs.declared.Seen.{Seen}
+use Rattle.report_frames.specs.Seen.{seen, frames_then, frames_from, frames_ahead, frames_read}
 use Rattle.report_frames.specs.Tally.{row_of, is_right, is_wrong, is_unreadable, is_over_long, data_in, one, times, data_bytes, tally}
 use Rattle.report_frames.specs.Claims.{FramesEnd, HeaderThere, UnreadableOnly, FramesBound, DataBound, TallyExamples}
 use Rattle.report_frames.proofs.Stands.{stands, not_before}
@@ -23,7 +24,7 @@ unfolding frames_read frames_ahead
 frames_end log k h = same log (ahead log fresh + k) (ahead log fresh) fresh (fresh-arranged log h) (omega arith) (omega arith)
 
 pub header_there : HeaderThere
-header_there log r t s n e = (stands 0 log r (omega arith)).there t s n e
+header_there log r t s n e = (stands 0 log r (omega arith)).there (record { kind = t; start = s; len = n }) e
 
 pub unreadable_only : UnreadableOnly
 unfolding seen
@@ -40,16 +41,16 @@ frames_bound log p =
 
 -- the data of the frames ahead fit behind the reader's place
 data_ahead : (log : List ℕ) (k : ℕ) (r : Reader) → Arranged log r → place r + data_bytes (frames_from k log r) ≤ blocks log * 32768
-unfolding frames_from data_bytes seen
+unfolding frames_from frames_then data_bytes seen
 data_ahead log zero r a = omega (arith, a.inside, a.within)
 data_ahead log (suc k) r a =
-    step (is_end (seen log r)) refl (data_ahead log k (read_frame log r).reader (left_arranged log r a))
+    step (seen log r) refl (data_ahead log k (read_frame log r).reader (left_arranged log r a))
   where
-    step : (b : Bool) → is_end (seen log r) ≡ b
+    step : (x : Option Seen) → seen log r ≡ x
         → place (read_frame log r).reader + data_bytes (frames_from k log (read_frame log r).reader) ≤ blocks log * 32768
-        → place r + data_bytes (cond b [] (seen log r ∷ frames_from k log (read_frame log r).reader)) ≤ blocks log * 32768
-    step true e h = omega (arith, a.inside, a.within)
-    step false e h = omega (arith, (stands (place r) log r (not_before r a.within)).moves e)
+        → place r + data_bytes (frames_then x (frames_from k log (read_frame log r).reader)) ≤ blocks log * 32768
+    step None e h = omega (arith, a.inside, a.within)
+    step (Some s) e h = omega (arith, (stands (place r) log r (not_before r a.within)).moves s e)
 
 pub data_bound : DataBound
 unfolding frames_read frames_ahead

@@ -1,7 +1,7 @@
 -- One frame read: where its header stands, what its type byte says, and how far the reader moves on.
 -- Assumes nothing.
 use mathlib.Core.Path.{◌≡◌, refl, sym, ap, subst, ◌∙◌}
-use mathlib.Core.Bool.{Bool, true, false, false≢true}
+use mathlib.Core.Bool.{Bool, true, false}
 use mathlib.Core.List.{List, ◌∷◌}
 use Prim.Native.Nat.{ℕ, suc, ◌+◌, ◌*◌, ◌≤◌}
 use native.Mathlib.Omega.{arith}
@@ -11,33 +11,44 @@ use Rattle.crc32.specs.Crc.{crc32}
 use Rattle.frame.specs.declared.Reader.{Reader}
 use Rattle.frame.specs.declared.FrameRead.{FrameRead}
 use Rattle.frame.specs.declared.FrameType.{FrameType}
-use Rattle.frame.specs.declared.TypeByte.{TypeByte}
-use Rattle.frame.specs.declared.TypeByte.TheVariants.{Known as known, Unknown as unknown}
+use Rattle.std.specs.Prelude.{Option, Some, Some as known, None, None as unknown, Ok}
+use Rattle.std.specs.Option.{unwrap_or}
 use Rattle.frame.specs.declared.Corruption.TheVariants.{UnknownType as unknown_type}
-use Rattle.frame.specs.declared.FrameAnswer.TheVariants.{Sound as sound, Corrupt as corrupt}
+use Rattle.frame.specs.declared.Frame.{Frame}
+use Rattle.frame.specs.Reader.{FrameAnswer, corrupt}
+use Rattle.frame.proofs.Measure.{frame_in}
+use Rattle.report_frames.specs.declared.Seen.{Seen}
 use Rattle.frame.specs.Frame.{type_of, all_zero, header_of, content_of}
 use Rattle.frame.specs.Block.{blocks}
 use Rattle.frame.specs.Reader.{place, judge, look, read_at, must_move, moved, read_frame}
 use Rattle.report_frames.specs.declared.Seen.TheVariants.{Unreadable as unreadable}
-use Rattle.report_frames.specs.Seen.{header_place_when, header_place, type_said, wrong_as, seen_as, is_end}
+use Rattle.report_frames.specs.Seen.{header_place_when, header_place, type_said, wrong_as, seen_as}
 use Rattle.report_frames.specs.Tally.{data_in}
 
 -- x is read by a reader at place q, with its header at place p, whose type byte says k
-pub record Stands (q p : ℕ) (k : TypeByte) (x : FrameRead) : Type 0 where
-  pub there : (t : FrameType) (s n : ℕ) → x.answer ≡ sound t s n → (s ≡ p + 7) × (k ≡ known t)
-  pub typed : seen_as k x.answer ≡ unreadable → x.answer ≡ corrupt unknown_type
-  pub moves : is_end (seen_as k x.answer) ≡ false → q + data_in (seen_as k x.answer) ≤ place x.reader
+pub record Stands (q p : ℕ) (k : Option FrameType) (x : FrameRead) : Type 0 where
+  pub there : (f : Frame) → x.answer ≡ Ok f → (f.start ≡ p + 7) × (k ≡ known f.kind)
+  pub typed : seen_as k x.answer ≡ Some unreadable → x.answer ≡ corrupt unknown_type
+  pub moves : (s : Seen) → seen_as k x.answer ≡ Some s → q + data_in s ≤ place x.reader
 
-judged : (q : ℕ) (z : Bool) (k : TypeByte) (f e : Bool) (b c n : ℕ) → q ≤ b * 32768 + c → Stands q (b * 32768 + c) k (judge z k f e b c n)
-unfolding judge seen_as wrong_as is_end data_in
-judged q true k f e b c n h = record { there = λ t s m g. (cc, cc); typed = λ g. cc; moves = λ g. absurd (false≢true (sym g)) }
-judged q false unknown f e b c n h = record { there = λ t s m g. (cc, cc); typed = λ g. refl; moves = λ g. omega arith }
-judged q false (known t) false e b c n h = record { there = λ u s m g. (cc, cc); typed = λ g. cc; moves = λ g. omega arith }
-judged q false (known t) true false b c n h = record { there = λ u s m g. (cc, cc); typed = λ g. cc; moves = λ g. omega arith }
+-- no frame is none that is seen, and the data of one are those of the same
+no_sight : {s : Seen} → None ≡ Some s → ⊥
+no_sight e = let z : ◌≡◌ {A = ℕ} 0 1 = cc in omega arith
+
+sight_data : {s u : Seen} → Some u ≡ Some s → data_in u ≡ data_in s
+sight_data {s} e = ap (λ (x : Option Seen). data_in (unwrap_or x s)) e
+
+judged : (q : ℕ) (z : Bool) (k : Option FrameType) (f e : Bool) (b c n : ℕ) → q ≤ b * 32768 + c → Stands q (b * 32768 + c) k (judge z k f e b c n)
+unfolding judge seen_as wrong_as data_in
+judged q true k f e b c n h = record { there = λ g d. (cc, cc); typed = λ g. cc; moves = λ s g. absurd (no_sight g) }
+judged q false unknown f e b c n h = record { there = λ g d. (cc, cc); typed = λ g. refl; moves = λ s g. omega (arith, sight_data g) }
+judged q false (known t) false e b c n h = record { there = λ g d. (cc, cc); typed = λ g. cc; moves = λ s g. omega (arith, sight_data g) }
+judged q false (known t) true false b c n h = record { there = λ g d. (cc, cc); typed = λ g. cc; moves = λ s g. omega (arith, sight_data g) }
 judged q false (known t) true true b c n h = record {
-  there = λ u s m g. (cc, cc);
+  there = λ g d.
+      (sym (ap (λ (x : FrameAnswer). (frame_in g x).start) d), ap (λ (x : FrameAnswer). known (frame_in g x).kind) d);
   typed = λ g. cc;
-  moves = λ g. omega arith;
+  moves = λ s g. omega (arith, sight_data g);
 }
 
 looked : (q b c : ℕ) (s : List ℕ) → q ≤ b * 32768 + c → Stands q (b * 32768 + c) (type_of (header_of s).kind) (look b c s)
@@ -62,14 +73,14 @@ placed q p log x r e s = subst (λ (i : ℕ). Stands q i (type_of (header_of (dr
 
 -- a frame read by any reader; where there is no next block, there is none
 pub stands : (q : ℕ) (log : List ℕ) (r : Reader) → q ≤ header_place r → Stands q (header_place r) (type_said log r) (read_frame log r)
-unfolding read_frame moved seen_as is_end
+unfolding read_frame moved seen_as
 stands q log r h = go (must_move r) refl (ltb (suc r.block) (blocks log))
   where
     go : (m : Bool) → must_move r ≡ m → (n : Bool) → Stands q (header_place r) (type_said log r) (moved m n log r)
     go false em n =
         placed q (place r) log (read_at log r.block r.cursor) r (stays_at r em)
         (looked q r.block r.cursor (drop (place r) log) (omega (arith, stays_at r em)))
-    go true em false = record { there = λ t s m g. (cc, cc); typed = λ g. cc; moves = λ g. absurd (false≢true (sym g)) }
+    go true em false = record { there = λ g d. (cc, cc); typed = λ g. cc; moves = λ s g. absurd (no_sight g) }
     go true em true =
         placed q (suc r.block * 32768 + 0) log (read_at log (suc r.block) 0) r (moves_to r em)
         (looked q (suc r.block) 0 (drop (suc r.block * 32768 + 0) log) (omega (arith, moves_to r em)))

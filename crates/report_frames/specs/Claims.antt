@@ -1,12 +1,11 @@
 -- Claim.
 -- What is claimed of the frames read of a log; each is proved in proofs/ under the same name in snake case.
 -- Assumes nothing.
-use Rattle.std.specs.Prelude.{◌≡◌, Bool, List, [], ◌∷◌, ℕ, ◌+◌, ◌*◌, ◌≤◌}
+use Rattle.std.specs.Prelude.{Some, ◌≡◌, Bool, List, [], ◌∷◌, ℕ, ◌+◌, ◌*◌, ◌≤◌}
 use Rattle.frame.specs.declared.Reader.{Reader}
 use Rattle.frame.specs.declared.FrameType.{FrameType}
 use Rattle.frame.specs.declared.FrameType.TheVariants.{Full as full, First as first, Middle as middle, Last as last}
-use Rattle.frame.specs.declared.TypeByte.TheVariants.{Known as known}
-use Rattle.frame.specs.declared.FrameAnswer.TheVariants.{Sound as sound, Corrupt as corrupt}
+use Rattle.frame.specs.Reader.{sound, corrupt}
 use Rattle.frame.specs.declared.Corruption.TheVariants.{UnknownType as unknown_type}
 use Rattle.frame.specs.Block.{blocks}
 use Rattle.frame.specs.Reader.{fresh, read_frame, ahead}
@@ -22,11 +21,11 @@ FramesEnd = (log : List ℕ) (k : ℕ) → 1 ≤ blocks log → frames_from (ahe
 -- a sound frame's header stands at `header_place`, its data right after it, and its type is the one said there
 abbrev pub HeaderThere : Type 0
 HeaderThere = (log : List ℕ) (r : Reader) (t : FrameType) (s n : ℕ) → (read_frame log r).answer ≡ sound t s n
-    → (s ≡ header_place r + 7) × (type_said log r ≡ known t)
+    → (s ≡ header_place r + 7) × (type_said log r ≡ Some t)
 
 -- a header is counted as unreadable only where its type is unknown: a frame with a wrong checksum always has a type
 abbrev pub UnreadableOnly : Type 0
-UnreadableOnly = (log : List ℕ) (r : Reader) → seen log r ≡ unreadable → (read_frame log r).answer ≡ corrupt unknown_type
+UnreadableOnly = (log : List ℕ) (r : Reader) → seen log r ≡ Some unreadable → (read_frame log r).answer ≡ corrupt unknown_type
 
 -- each count of one log, whichever frames it counts: at most 4,681 for each block
 abbrev pub FramesBound : Type 0

@@ -6,7 +6,7 @@ use Rattle.std.specs.Prelude.{Bool, true, false, List, [], ◌∷◌, ℕ, ◌+�
 use Rattle.frame.specs.declared.FrameType.{FrameType}
 use Rattle.frame.specs.declared.FrameType.TheVariants.{Full as full, First as first, Middle as middle, Last as last}
 use Rattle.report_frames.specs.declared.Seen.{Seen}
-use Rattle.report_frames.specs.declared.Seen.TheVariants.{Right as right, Wrong as wrong, Unreadable as unreadable, OverLong as over_long, EndOfLog as end_of_log}
+use Rattle.report_frames.specs.declared.Seen.TheVariants.{Right as right, Wrong as wrong, Unreadable as unreadable, OverLong as over_long}
 
 -- the row of a frame type in the table: Full, First, Middle, Last
 unfoldable pub row_of : FrameType → ℕ
@@ -21,28 +21,24 @@ is_right k (right t n) = eqb k (row_of t)
 is_right k (wrong t) = false
 is_right k unreadable = false
 is_right k over_long = false
-is_right k end_of_log = false
 
 unfoldable pub is_wrong : ℕ → Seen → Bool
 is_wrong k (right t n) = false
 is_wrong k (wrong t) = eqb k (row_of t)
 is_wrong k unreadable = false
 is_wrong k over_long = false
-is_wrong k end_of_log = false
 
 unfoldable pub is_unreadable : Seen → Bool
 is_unreadable (right t n) = false
 is_unreadable (wrong t) = false
 is_unreadable unreadable = true
 is_unreadable over_long = false
-is_unreadable end_of_log = false
 
 unfoldable pub is_over_long : Seen → Bool
 is_over_long (right t n) = false
 is_over_long (wrong t) = false
 is_over_long unreadable = false
 is_over_long over_long = true
-is_over_long end_of_log = false
 
 -- bytes of data where the frame is sound
 unfoldable pub data_in : Seen → ℕ
@@ -50,7 +46,6 @@ data_in (right t n) = n
 data_in (wrong t) = 0
 data_in unreadable = 0
 data_in over_long = 0
-data_in end_of_log = 0
 
 unfoldable pub one : Bool → ℕ
 one true = 1

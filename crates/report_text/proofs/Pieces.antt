@@ -7,14 +7,15 @@ use Prim.Native.Nat.{ℕ}
 use lib.ListN.{length, get_or, length-replicate}
 use Rattle.slices.specs.Bytes.{zeros}
 use Rattle.std.specs.Prelude.{Option}
+use Rattle.report.specs.declared.MeanLength.{MeanLength}
 use Rattle.listing.specs.Writing.{written, listed}
 use Rattle.listing.specs.Internal.{Wrote, Lists}
 use Rattle.listing.specs.Listing.{numbered, number_line, refused_word, space, line_feed, refusal}
 use Rattle.listing.proofs.Writes.{on, reads, wrote-length, listed-behind}
-use Rattle.report.specs.declared.MeanAnswer.{MeanAnswer}
-use Rattle.report.specs.declared.MeanAnswer.TheVariants.{Mean as mean, Nothing as nothing, Refused as no_mean}
+use Rattle.std.specs.Prelude.{Some, None, Ok, Err}
+use Rattle.report.specs.declared.ReportRefusal.{ReportRefusal}
 use Rattle.report.specs.Layout.{report_numbers, report_arranged}
-use Rattle.report.specs.Feed.{mean_answer}
+use Rattle.report.specs.Feed.{refusal_number, MeanAnswer, mean, mean_answer}
 use Rattle.report_text.specs.Text.{logs_word, full_word, first_word, middle_word, last_word, wrong_word, unreadable_word, over_long_word, data_word, mean_word, remainder_word, over_word, no_mean_line}
 use Rattle.report_text.specs.Text.{row_line, table_lines, other_lines, mean_line, count_lines, report_text, refused_line}
 
@@ -39,22 +40,22 @@ unfolding count_lines
 counts_on ws a b c = on a (on b c)
 
 pub parts_on : {s t u v : List ℕ} {p q r m : ℕ} (w k n : ℕ) → Wrote s p (numbered mean_word w) q t → Wrote t q (numbered remainder_word k) r u
-    → Wrote u r (number_line over_word n) m v → Wrote s p (mean_line (mean w k n)) m v
+    → Wrote u r (number_line over_word n) m v → Wrote s p (mean_line (Ok (mean w k n))) m v
 unfolding mean_line
 parts_on w k n a b c = on a (on b c)
 
 -- ---- the mean's line by its cases
 
-pub mean_is : {s t : List ℕ} {p q : ℕ} (a b : MeanAnswer) → a ≡ b → Wrote s p (mean_line b) q t → Wrote s p (mean_line a) q t
-mean_is a b e x = reads (ap mean_line (sym e)) x
+pub mean_is : {s t : List ℕ} {p q : ℕ} (a : MeanAnswer) (m n : Option MeanLength) → a ≡ Ok m → m ≡ n → Wrote s p (mean_line (Ok n)) q t → Wrote s p (mean_line a) q t
+mean_is a m n e f x = reads (ap (λ (y : Option MeanLength). mean_line (Ok y)) (sym f) ∙ ap mean_line (sym e)) x
 
-pub none_is : {s t : List ℕ} {p q : ℕ} (a : MeanAnswer) → a ≡ nothing → Wrote s p no_mean_line q t → Wrote s p (mean_line a) q t
+pub none_is : {s t : List ℕ} {p q : ℕ} (a : MeanAnswer) (m : Option MeanLength) → a ≡ Ok m → m ≡ None → Wrote s p no_mean_line q t → Wrote s p (mean_line a) q t
 unfolding mean_line
-none_is a e x = reads (ap mean_line (sym e)) x
+none_is a m e f x = mean_is a m None e f x
 
-pub refused_is : {s t : List ℕ} {p q : ℕ} (a : MeanAnswer) (n : ℕ) → a ≡ no_mean n → Wrote s p (number_line refused_word n) q t → Wrote s p (mean_line a) q t
+pub refused_is : {s t : List ℕ} {p q : ℕ} (a : MeanAnswer) (k : ReportRefusal) {n : ℕ} → a ≡ Err k → n ≡ refusal_number k → Wrote s p (number_line refused_word n) q t → Wrote s p (mean_line a) q t
 unfolding mean_line refusal
-refused_is a n e x = reads (ap mean_line (sym e)) x
+refused_is a k e f x = reads (ap (number_line refused_word) f ∙ ap mean_line (sym e)) x
 
 -- ---- a whole text
 

@@ -11,10 +11,10 @@ use Rattle.listing.specs.Digits.{digit, decimal_in, decimal}
 use Rattle.listing.specs.Listing.{numbered, number_line, refusal}
 use Rattle.listing.proofs.Bounds.{decimal_short}
 use Rattle.listing.proofs.Writes.{listed-whole}
-use Rattle.report.specs.declared.MeanAnswer.{MeanAnswer}
-use Rattle.report.specs.declared.MeanAnswer.TheVariants.{Refused as no_mean}
+use Rattle.std.specs.Prelude.{Ok, Err}
+use Rattle.report.specs.declared.ReportRefusal.TheVariants.{NotArranged as not_arranged}
 use Rattle.report.specs.Layout.{report_numbers, report_arranged}
-use Rattle.report.specs.Feed.{mean_of, sound_frames, mean_answer}
+use Rattle.report.specs.Feed.{MeanAnswer, mean_of, sound_frames, mean_answer}
 use Rattle.report.proofs.Claims.{report_bound}
 use Rattle.report_text.specs.Text.{row_line, table_lines, other_lines, mean_line, count_lines, report_text, refused_line, mean_word, remainder_word, over_word, wrong_word}
 use Rattle.report_text.specs.Text.{logs_word, full_word, first_word, middle_word, last_word, unreadable_word, over_long_word, data_word}
@@ -72,7 +72,7 @@ module _ (ws : List ℕ) (h : (i : ℕ) → get_or ws i 0 < 2 ^ 64) where
         others_short,
       )
 
-mean_short : (n bytes : ℕ) → n < 2 ^ 64 → bytes < 2 ^ 64 → length (mean_line (mean_of n bytes)) ≤ 83
+mean_short : (n bytes : ℕ) → n < 2 ^ 64 → bytes < 2 ^ 64 → length (mean_line (Ok (mean_of n bytes))) ≤ 83
 unfolding mean_of mean_line
 mean_short zero bytes h k = omega arith
 mean_short (suc n) bytes h k =
@@ -94,9 +94,9 @@ refusal_short : length (refusal 6) ≤ 1024
 unfolding refusal number_line numbered decimal decimal_in digit
 refusal_short = let l : length (refusal 6) ≡ 10 = refl in omega (arith, l)
 
-mean_is : (report : List ℕ) → report_arranged report ≡ true → mean_answer report ≡ mean_of (sound_frames (report_numbers report)) (get_or (report_numbers report) 11 0)
+mean_is : (report : List ℕ) → report_arranged report ≡ true → mean_answer report ≡ Ok (mean_of (sound_frames (report_numbers report)) (get_or (report_numbers report) 11 0))
 unfolding mean_answer
-mean_is report e = ap (λ (b : Bool). cond b (mean_of (sound_frames (report_numbers report)) (get_or (report_numbers report) 11 0)) (no_mean 6)) e
+mean_is report e = ap (λ (b : Bool). cond b (Ok (mean_of (sound_frames (report_numbers report)) (get_or (report_numbers report) 11 0))) (Err not_arranged)) e
 
 pub report_short : ReportShort
 unfolding report_text sound_frames

@@ -1,12 +1,10 @@
 -- Definition (02, Ticket 12).
 -- The text that the depot's tool prints for a report: the table, the other counts, the mean. Characters are their ASCII codes; each line ends with a line feed.
 -- Assumes nothing.
-use Rattle.std.specs.Prelude.{Bool, cond, List, [], ◌∷◌, ◌++◌, ℕ, ltb, length, get_or}
+use Rattle.std.specs.Prelude.{Some, None, Ok, Err, Bool, cond, List, [], ◌∷◌, ◌++◌, ℕ, ltb, length, get_or}
 use Rattle.listing.specs.Listing.{numbered, number_line, refused_word, space, line_feed, refusal}
-use Rattle.report.specs.declared.MeanAnswer.{MeanAnswer}
-use Rattle.report.specs.declared.MeanAnswer.TheVariants.{Mean as mean, Nothing as nothing, Refused as no_mean}
 use Rattle.report.specs.Layout.{report_numbers, report_arranged}
-use Rattle.report.specs.Feed.{feed_refusal, feed_left, mean_answer}
+use Rattle.report.specs.Feed.{feed_refusal, feed_left, refusal_number, MeanAnswer, mean_answer}
 
 -- ---- the words, each with the spaces around it
 
@@ -79,9 +77,9 @@ other_lines ws = number_line unreadable_word (get_or ws 9 0) ++ (number_line ove
 
 -- "as a whole number and a remainder over their count, or "none" when there are none"
 unfoldable pub mean_line : MeanAnswer → List ℕ
-mean_line (mean w r n) = numbered mean_word w ++ (numbered remainder_word r ++ number_line over_word n)
-mean_line nothing = no_mean_line
-mean_line (no_mean k) = refusal k
+mean_line (Ok (Some m)) = numbered mean_word m.whole ++ (numbered remainder_word m.remainder ++ number_line over_word m.count)
+mean_line (Ok None) = no_mean_line
+mean_line (Err e) = refusal (refusal_number e)
 
 unfoldable pub count_lines : List ℕ → List ℕ
 count_lines ws = number_line logs_word (get_or ws 0 0) ++ (table_lines ws ++ other_lines ws)

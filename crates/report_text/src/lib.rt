@@ -1,18 +1,18 @@
 // What the depot's tool prints for a report, and a card fed.
 #![tactic(auto)]
 
-ghost use Rattle.std.specs.Prelude.{◌≡◌, true, length};
+ghost use Rattle.std.specs.Prelude.{◌≡◌, true, Some, Ok, length};
 ghost use Rattle.slices.specs.Bytes.{zeros};
 ghost use Rattle.listing.specs.Writing.{written, listed};
 ghost use Rattle.listing.specs.Internal.{SameOut, Puts, Lists};
 ghost use Rattle.report.specs.Layout.{report_numbers, report_arranged};
-ghost use Rattle.report.specs.Feed.{mean_answer};
+ghost use Rattle.report.specs.Feed.{feed_number, mean_answer};
 ghost use Rattle.report_text.specs.Text.{row_line, table_lines, other_lines, mean_line, count_lines, report_text, refused_line, card_refusal, card_left};
 
 use calls::Refusal;
 use frame::Reader;
 use listing::{Text, refused};
-use report::MeanAnswer;
+use report::{MeanLength, ReportRefusal};
 use slices::clear;
 
 // Two blocks.
@@ -27,8 +27,7 @@ fn put_row(text: &mut Text, word: &[u8], right: u64, wrong: u64)
     text.put_number_line(b" wrong ", wrong);
 }
 
-fn put_table(text: &mut Text, numbers: &[u64])
-    requires { length numbers.now ≡ 12 }
+fn put_table(text: &mut Text, numbers: &[u64; 12])
     ensures same { SameOut text.old text.new }
     ensures puts { Puts text.old (table_lines numbers.now) text.new }
 {
@@ -38,8 +37,7 @@ fn put_table(text: &mut Text, numbers: &[u64])
     put_row(text, b"last right ", numbers[7], numbers[8]);
 }
 
-fn put_others(text: &mut Text, numbers: &[u64])
-    requires { length numbers.now ≡ 12 }
+fn put_others(text: &mut Text, numbers: &[u64; 12])
     ensures same { SameOut text.old text.new }
     ensures puts { Puts text.old (other_lines numbers.now) text.new }
 {
@@ -48,8 +46,7 @@ fn put_others(text: &mut Text, numbers: &[u64])
     text.put_number_line(b"data ", numbers[11]);
 }
 
-fn put_counts(text: &mut Text, numbers: &[u64])
-    requires { length numbers.now ≡ 12 }
+fn put_counts(text: &mut Text, numbers: &[u64; 12])
     ensures same { SameOut text.old text.new }
     ensures puts { Puts text.old (count_lines numbers.now) text.new }
 {
@@ -58,27 +55,23 @@ fn put_counts(text: &mut Text, numbers: &[u64])
     put_others(text, numbers);
 }
 
-fn put_parts(text: &mut Text, whole: u64, remainder: u64, count: u64)
+fn put_parts(text: &mut Text, mean: MeanLength)
     ensures same { SameOut text.old text.new }
-    ensures puts { Puts text.old (mean_line (MeanAnswer.Mean whole remainder count)) text.new }
+    ensures puts { Puts text.old (mean_line (Ok (Some mean))) text.new }
 {
-    text.put_numbered(b"mean ", whole);
-    text.put_numbered(b" remainder ", remainder);
-    text.put_number_line(b" over ", count);
+    text.put_numbered(b"mean ", mean.whole);
+    text.put_numbered(b" remainder ", mean.remainder);
+    text.put_number_line(b" over ", mean.count);
 }
 
-fn put_mean(text: &mut Text, mean: MeanAnswer)
+fn put_mean(text: &mut Text, mean: Result<Option<MeanLength>, ReportRefusal>)
     ensures same { SameOut text.old text.new }
     ensures puts { Puts text.old (mean_line mean) text.new }
 {
     match mean {
-        MeanAnswer::Mean {
-            whole,
-            remainder,
-            count,
-        } => put_parts(text, whole, remainder, count),
-        MeanAnswer::Nothing => text.put_bytes(b"mean none\n"),
-        MeanAnswer::Refused(number) => text.put_number_line(b"refused ", number),
+        Ok(Some(parts)) => put_parts(text, parts),
+        Ok(None) => text.put_bytes(b"mean none\n"),
+        Err(refusal) => text.put_number_line(b"refused ", refusal.number()),
     }
 }
 
@@ -100,12 +93,13 @@ pub fn list_report(report: &[u8], out: &mut [u8]) -> Option<usize>
 {
     clear(out);
     if !report::report_arranged(report) {
-        return refused(out, Refusal::NOT_ARRANGED);
+        return refused(out, Refusal::NotArranged.number());
     }
     list_arranged(out, report)
 }
 
 // The line for a card that is refused, from the buffer's start on.
+// Kept: no plainer: the line has a number in it, and a caller may give any; the type of a refusal would take three.
 pub fn list_refused(number: u64, name: &[u8], out: &mut [u8]) -> Option<usize>
     ensures { (result ≡ listed (length out.old) (length (refused_line number name.now)))
         × (out.new ≡ written out.old 0 (refused_line number name.now)) }
@@ -118,13 +112,13 @@ pub fn list_refused(number: u64, name: &[u8], out: &mut [u8]) -> Option<usize>
     text.listed()
 }
 
-// A card fed to the report; answers the number of the refusal, 0 where there is none. A refusal leaves the report as it was.
-pub fn feed_card(report: &mut [u8], card: &[u8]) -> u64
-    ensures { (result ≡ card_refusal report.old card.now)
+// A card fed to the report. A refusal leaves the report as it was.
+pub fn feed_card(report: &mut [u8], card: &[u8]) -> Result<(), ReportRefusal>
+    ensures { (feed_number result ≡ card_refusal report.old card.now)
         × (report.new ≡ card_left report.old card.now) }
 {
     if MAX_CARD_LEN < card.len() {
-        return Refusal::LOG_SIZE;
+        return Err(ReportRefusal::LogSize);
     }
-    report::number(report::feed(report, card))
+    report::feed(report, card)
 }

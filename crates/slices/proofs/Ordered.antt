@@ -3,31 +3,30 @@
 use mathlib.Core.Path.{◌≡◌, refl, sym, ap, ap₂, ◌∙◌}
 use mathlib.Core.Bool.{Bool, true, false}
 use mathlib.Core.List.{List, [], ◌∷◌}
-use Prim.Native.Nat.{ℕ, ◌+◌, ◌≤◌, ◌<◌}
-use native.Mathlib.Numerals.{add-one}
+use Prim.Native.Nat.{ℕ, ◌≤◌, ◌<◌}
 use native.Mathlib.Omega.{arith}
 use lib.Dec.{ltb}
-use lib.ListN.{length, get_or, drop, drop_of_length-le}
-use lib.Seq.{drop-cons}
-use borrow.Author.Tests.{ltb-true, ltb-false, lt-ltb, le-ltb}
+use borrow.Author.Tests.{ltb-true, ltb-false, lt-ltb, le-ltb, eq-eqb, ne_eqb}
+use Rattle.std.specs.Ordering.{nat_cmp, ordering_then}
+use Rattle.std.specs.Cmp.Lexicographic.{slice_cmp}
 use Rattle.slices.specs.Order.{order, order_by}
 use Rattle.slices.specs.Claims.{OrderSame, OrderFlips, OrderRises}
-use Rattle.slices.specs.declared.Order.{Order}
-use Rattle.slices.specs.declared.Order.TheVariants.{Below as below, Same as same, Above as above}
+use Rattle.std.specs.declared.cmp.Ordering.{Ordering}
+use Rattle.std.specs.declared.cmp.Ordering.TheVariants.{Less, Equal, Greater}
 
 -- ---- one byte
 
 -- what the two tests of a byte say of it
 module _ (x y : ℕ) where
-  pub by_below : (o : Order) → x < y → order_by (ltb x y) (ltb y x) o ≡ below
+  pub by_below : (o : Ordering) → x < y → order_by (ltb x y) (ltb y x) o ≡ Less
   unfolding order_by
   by_below o h = rw (lt-ltb x y h)
 
-  pub by_above : (o : Order) → y < x → order_by (ltb x y) (ltb y x) o ≡ above
+  pub by_above : (o : Ordering) → y < x → order_by (ltb x y) (ltb y x) o ≡ Greater
   unfolding order_by
   by_above o h = rw (le-ltb x y (omega arith), lt-ltb y x h)
 
-  pub by_same : (o : Order) → x ≡ y → order_by (ltb x y) (ltb y x) o ≡ o
+  pub by_same : (o : Ordering) → x ≡ y → order_by (ltb x y) (ltb y x) o ≡ o
   unfolding order_by
   by_same o e = rw (le-ltb x y (omega arith), le-ltb y x (omega arith))
 
@@ -40,23 +39,23 @@ module _ (x y : ℕ) where
       go false true a b = g (ltb-true y x b)
       go false false a b = k (omega (arith, ltb-false x y a, ltb-false y x b))
 
-no_below_same : below ≡ same → ⊥
+no_below_same : Less ≡ Equal → ⊥
 no_below_same e = let z : ◌≡◌ {A = ℕ} 0 1 = cc in omega arith
 
-no_above_same : above ≡ same → ⊥
+no_above_same : Greater ≡ Equal → ⊥
 no_above_same e = let z : ◌≡◌ {A = ℕ} 0 1 = cc in omega arith
 
-no_above_below : above ≡ below → ⊥
+no_above_below : Greater ≡ Less → ⊥
 no_above_below e = let z : ◌≡◌ {A = ℕ} 0 1 = cc in omega arith
 
 -- ---- the order
 
-pub order_refl : (xs : List ℕ) → order xs xs ≡ same
+pub order_refl : (xs : List ℕ) → order xs xs ≡ Equal
 unfolding order
 order_refl [] = refl
 order_refl (x ∷ xs) = by_same x x (order xs xs) refl ∙ order_refl xs
 
-same_order : (xs ys : List ℕ) → order xs ys ≡ same → xs ≡ ys
+same_order : (xs ys : List ℕ) → order xs ys ≡ Equal → xs ≡ ys
 unfolding order
 same_order [] [] e = refl
 same_order [] (y ∷ ys) e = absurd (no_below_same e)
@@ -70,10 +69,10 @@ pub order_same : OrderSame
 order_same xs ys = (same_order xs ys, λ e. ap (order xs) (sym e) ∙ order_refl xs)
 
 -- seen from the other side
-unfoldable flipped : Order → Order
-flipped below = above
-flipped same = same
-flipped above = below
+unfoldable flipped : Ordering → Ordering
+flipped Less = Greater
+flipped Equal = Equal
+flipped Greater = Less
 
 order_flipped : (xs ys : List ℕ) → order ys xs ≡ flipped (order xs ys)
 unfolding order flipped
@@ -91,17 +90,17 @@ unfolding flipped
 order_flips xs ys = (λ e. order_flipped xs ys ∙ ap flipped e, λ e. order_flipped xs ys ∙ ap flipped e)
 
 -- the first byte decides between the first and the third, or none of the two does
-module _ (x y z : ℕ) (xs ys zs : List ℕ) (rec : order xs ys ≡ below → order ys zs ≡ below → order xs zs ≡ below) where
-  rises_on : order_by (ltb x y) (ltb y x) (order xs ys) ≡ below → order_by (ltb y z) (ltb z y) (order ys zs) ≡ below
-      → order_by (ltb x z) (ltb z x) (order xs zs) ≡ below
+module _ (x y z : ℕ) (xs ys zs : List ℕ) (rec : order xs ys ≡ Less → order ys zs ≡ Less → order xs zs ≡ Less) where
+  rises_on : order_by (ltb x y) (ltb y x) (order xs ys) ≡ Less → order_by (ltb y z) (ltb z y) (order ys zs) ≡ Less
+      → order_by (ltb x z) (ltb z x) (order xs zs) ≡ Less
   rises_on e f =
-      bytewise x z (order_by (ltb x z) (ltb z x) (order xs zs) ≡ below) (λ h. by_below x z (order xs zs) h)
+      bytewise x z (order_by (ltb x z) (ltb z x) (order xs zs) ≡ Less) (λ h. by_below x z (order xs zs) h)
       (λ h. absurd (omega (arith, not_above x y (order xs ys) e, not_above y z (order ys zs) f)))
       (λ h. by_same x z (order xs zs) h
       ∙ rec (sym (by_same x y (order xs ys) (omega (arith, not_above x y (order xs ys) e, not_above y z (order ys zs) f))) ∙ e)
       (sym (by_same y z (order ys zs) (omega (arith, not_above x y (order xs ys) e, not_above y z (order ys zs) f))) ∙ f))
     where
-      not_above : (a b : ℕ) (o : Order) → order_by (ltb a b) (ltb b a) o ≡ below → a ≤ b
+      not_above : (a b : ℕ) (o : Ordering) → order_by (ltb a b) (ltb b a) o ≡ Less → a ≤ b
       not_above a b o g =
           bytewise a b (a ≤ b) (λ h. omega arith) (λ h. absurd (no_above_below (sym (by_above a b o h) ∙ g))) (λ h. omega arith)
 
@@ -114,25 +113,16 @@ order_rises (x ∷ xs) [] zs e f = absurd (no_above_below e)
 order_rises (x ∷ xs) (y ∷ ys) [] e f = f
 order_rises (x ∷ xs) (y ∷ ys) (z ∷ zs) e f = rises_on x y z xs ys zs (order_rises xs ys zs) e f
 
--- ---- from a place on
+-- ---- the order of std's slices
 
--- the first byte from the place i on
-pub order-step : (a b : List ℕ) (i : ℕ) → i < length a → i < length b
-    → order (drop i a) (drop i b) ≡ order_by (ltb (get_or a i 0) (get_or b i 0)) (ltb (get_or b i 0) (get_or a i 0)) (order (drop (i + 1) a) (drop (i + 1) b))
-unfolding order
-order-step a b i h l =
-    ap₂ order (drop-cons a i 0 h) (drop-cons b i 0 l)
-    ∙ ap (λ (k : ℕ). order_by (ltb (get_or a i 0) (get_or b i 0)) (ltb (get_or b i 0) (get_or a i 0)) (order (drop k a) (drop k b))) (sym (add-one i))
-
--- where one of the two, or both, are at their end
-pub order_first_ends : (a b : List ℕ) (i : ℕ) → length a ≤ i → i < length b → order (drop i a) (drop i b) ≡ below
-unfolding order
-order_first_ends a b i h l = ap₂ order (drop_of_length-le a h) (drop-cons b i 0 l)
-
-pub order_second_ends : (a b : List ℕ) (i : ℕ) → i < length a → length b ≤ i → order (drop i a) (drop i b) ≡ above
-unfolding order
-order_second_ends a b i h l = ap₂ order (drop-cons a i 0 h) (drop_of_length-le b l)
-
-pub order_both_end : (a b : List ℕ) (i : ℕ) → length a ≤ i → length b ≤ i → order (drop i a) (drop i b) ≡ same
-unfolding order
-order_both_end a b i h l = ap₂ order (drop_of_length-le a h) (drop_of_length-le b l)
+pub order_by_cmp : (xs ys : List ℕ) → slice_cmp nat_cmp xs ys ≡ order xs ys
+unfolding order order_by
+order_by_cmp [] [] = refl
+order_by_cmp [] (y ∷ ys) = refl
+order_by_cmp (x ∷ xs) [] = refl
+order_by_cmp (x ∷ xs) (y ∷ ys) =
+    ap (ordering_then (nat_cmp x y)) (order_by_cmp xs ys)
+    ∙ bytewise x y (ordering_then (nat_cmp x y) (order xs ys) ≡ order_by (ltb x y) (ltb y x) (order xs ys))
+    (λ h. rw (lt-ltb x y h))
+    (λ h. rw (le-ltb x y (omega arith), ne_eqb x y (λ e. omega arith), lt-ltb y x h))
+    (λ h. rw (le-ltb x y (omega arith), eq-eqb x y h, le-ltb y x (omega arith)))

@@ -1,8 +1,8 @@
 -- Definition (01, "The call").
--- What storing a run of bytes into a slice leaves.
+-- What storing a run of elements into a slice leaves.
 -- Assumes nothing.
 use Rattle.std.specs.Prelude.{List, ◌++◌, ℕ, ◌+◌, length, take, drop}
 
--- s with the bytes xs from place p on, and unchanged elsewhere
-unfoldable pub put : List ℕ → ℕ → List ℕ → List ℕ
+-- s with the run xs from place p on, and unchanged elsewhere
+unfoldable pub put : {A : Type 0} → List A → ℕ → List A → List A
 put s p xs = take p s ++ (xs ++ drop (p + length xs) s)

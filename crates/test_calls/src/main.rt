@@ -2,11 +2,12 @@
 // what should come by document 01; examples/counts/make.py works out the last ones, with both counts of bytes.
 #![tactic(auto)]
 
-use std::io::{self, Read};
+use std::io::Read;
 
-fn main(rt: HostRuntime) -> io::Result<()> {
+// The first 65,536 bytes of the input, as far as they can be read.
+// Kept: no plainer: `test_calls` and `test_rust_answers` are one program over two inputs, and a crate has one stdin and one stdout.
+fn main(rt: HostRuntime) {
     let mut list = Vec::new(rt.alloc());
-    rt.stdin().read_to_end(&mut list)?;
+    let _ = rt.stdin().take(65536).read_to_end(&mut list);
     test_commands::run(list.as_slice());
-    Ok(())
 }

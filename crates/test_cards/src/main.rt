@@ -1,9 +1,7 @@
 // Lists the cards that standard input holds, one after the other, an empty line after each. A card is stored as its length and how many of its bytes are
-// stored, three bytes each, the low one first, then these bytes; zeros follow them up to the card's length.
+// stored, three bytes each, the low one first, then these bytes; zeros follow them up to the card's length, also where the input ends before they do. A card
+// of more than 65,537 bytes, and one of which more is stored than it has, end the list.
 #![tactic(auto)]
-
-use std::alloc::Global;
-use std::io::Read;
 
 fn list(card: &[u8]) {
     let mut out = [0u8; 420235];
@@ -13,33 +11,27 @@ fn list(card: &[u8]) {
     io::write_all(1, &out[..n]);
 }
 
-fn length(low: u8, middle: u8, high: u8) -> usize {
-    u32::from_le_bytes([low, middle, high, 0]) as usize
-}
-
-// The next card, where there is one.
-fn next_card(alloc: Global, input: &mut impl Read) -> std::io::Result<Option<Vec<u8>>> {
+// The next card, where there is one, in a buffer of zeros.
+fn next_card(room: &mut [u8]) -> Option<&[u8]> {
     let mut head = [0u8; 6];
-    if input.read_exact(&mut head).is_err() {
-        return Ok(None);
+    if io::read_full(0, &mut head) < 6 {
+        return None;
     }
     let [a, b, c, d, e, f] = head;
-    let mut card = vec![in alloc; 0u8; length(a, b, c)]?;
-    let Some(stored) = card.as_mut_slice().get_mut(..length(d, e, f)) else {
-        return Ok(None);
-    };
-    input.read_exact(stored)?;
-    Ok(Some(card))
+    let len = u32::from_le_bytes([a, b, c, 0]) as usize;
+    let stored = u32::from_le_bytes([d, e, f, 0]) as usize;
+    let card = room.get_mut(..len)?;
+    io::read_full(0, card.get_mut(..stored)?);
+    Some(card)
 }
 
-fn main(rt: HostRuntime) -> std::io::Result<()> {
-    let mut input = rt.stdin();
+fn main() {
     for _ in 0..1000 {
-        let Some(card) = next_card(rt.alloc(), &mut input)? else {
+        let mut room = [0u8; 65537];
+        let Some(card) = next_card(&mut room) else {
             break;
         };
-        list(card.as_slice());
+        list(card);
         io::write_all(1, b"\n");
     }
-    Ok(())
 }

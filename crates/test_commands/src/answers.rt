@@ -1,7 +1,8 @@
 // What is answered, as text on standard output.
 use crate::command::Write;
-use multi_record_log::{Called, Last, ReplayAnswer};
+use multi_record_log::{Called, Refusal, Replayed};
 
+// Kept: no plainer: `run` can't fail, and with `print!` each function below it takes the runtime and answers a result.
 pub fn text(s: &[u8]) {
     io::write_all(1, s);
 }
@@ -12,8 +13,8 @@ pub fn say(what: &[u8], n: u64) {
     io::print_decimal(1, n);
 }
 
-pub fn refused(n: u64) {
-    say(b" refused ", n);
+pub fn refused(refusal: Refusal) {
+    say(b" refused ", refusal.number());
 }
 
 // The CRC-32 of some bytes, as a number.
@@ -50,42 +51,33 @@ pub fn say_record(s: &[u8], position: u64, start: usize, len: usize) {
 }
 
 // The bytes written: both counts, frame bytes + padding bytes, or their sum.
-fn say_written(what: &[u8], frame_bytes: usize, padding_bytes: usize, both: bool) {
+fn say_written(what: &[u8], done: Called, both: bool) {
     if both {
-        say(what, frame_bytes as u64);
-        say(b" + ", padding_bytes as u64);
+        say(what, done.frame_bytes as u64);
+        say(b" + ", done.padding_bytes as u64);
     } else {
-        say(what, frame_bytes.wrapping_add(padding_bytes) as u64);
+        say(
+            what,
+            done.frame_bytes.wrapping_add(done.padding_bytes) as u64,
+        );
     }
 }
 
-// What a call answered: first what it says beside the bytes written, then these. Of an empty append they are said only where both counts are asked for.
-pub fn called(write: Write, answer: Called, both: bool) {
-    let Called::Done {
-        last,
-        evicted,
-        frame_bytes,
-        padding_bytes,
-    } = answer
-    else {
-        if let Called::Refused(n) = answer {
-            refused(n);
-        }
-        return;
-    };
-    let what: &[u8] = match (write, last) {
+// What a call did: first what it says beside the bytes written, then these. Of an empty append they are said only where both counts are asked for.
+fn say_done(write: Write, done: Called, both: bool) {
+    let what: &[u8] = match (write, done.last) {
         (Write::Create, _) => b" created ",
         (Write::Delete, _) => b" deleted ",
         (Write::Mark, _) => b" marked ",
         (Write::Truncate, _) => {
-            say(b" evicted ", evicted as u64);
+            say(b" evicted ", done.evicted as u64);
             b" bytes "
         }
-        (Write::Append, Last::At(position)) => {
+        (Write::Append, Some(position)) => {
             say(b" last ", position);
             b" bytes "
         }
-        (Write::Append, Last::Nowhere) => {
+        (Write::Append, None) => {
             text(b" empty");
             if !both {
                 return;
@@ -93,16 +85,24 @@ pub fn called(write: Write, answer: Called, both: bool) {
             b" "
         }
     };
-    say_written(what, frame_bytes, padding_bytes, both);
+    say_written(what, done, both);
 }
 
-pub fn replayed(answer: ReplayAnswer, queues: u64) {
+// What a call answered.
+pub fn called(write: Write, answer: Result<Called, Refusal>, both: bool) {
     match answer {
-        ReplayAnswer::Replayed { lost, resumed, .. } => {
+        Ok(done) => say_done(write, done, both),
+        Err(refusal) => refused(refusal),
+    }
+}
+
+pub fn replayed(answer: Result<Replayed, Refusal>, queues: u64) {
+    match answer {
+        Ok(Replayed { lost, resumed, .. }) => {
             say(b" lost ", lost);
             say(b" resumed ", resumed as u64);
         }
-        ReplayAnswer::Refused(n) => refused(n),
+        Err(refusal) => refused(refusal),
     }
     say(b" queues ", queues);
 }

@@ -5,7 +5,7 @@ use crate::answers::{say, say_crc, text};
 use crate::bytes::fill;
 use crate::command::{Change, Set, Show};
 use crate::line::Line;
-use crate::memory::Memory;
+use crate::memory::{Memory, table_word};
 
 // The number at a place of memory, in 8 bytes, where it has that place.
 fn put_number(s: &mut [u8], place: usize, n: u64) {
@@ -15,17 +15,18 @@ fn put_number(s: &mut [u8], place: usize, n: u64) {
 }
 
 pub fn do_set(memory: &mut Memory<'_>, set: Set, line: Line<'_>) {
+    let Memory { writer, queues } = memory;
     match set {
         Set::Start => {
-            memory.log.fill(0);
-            memory.table.fill(0);
-            *memory.write_position = 0;
+            writer.log.fill(0);
+            queues.table.fill(0);
+            *writer.write_position = 0;
         }
-        Set::Stain => memory.scratch.fill(170),
-        Set::Move => *memory.write_position = line.place(),
-        Set::Keep => put_number(memory.largest, line.place(), line.number_or_0(b"number")),
-        Set::Soil => memory.largest.fill(170),
-        Set::Queues => put_number(memory.table, 0, line.number_or_0(b"queues")),
+        Set::Stain => writer.scratch.fill(170),
+        Set::Move => *writer.write_position = line.place(),
+        Set::Keep => put_number(queues.largest, line.place(), line.number_or_0(b"number")),
+        Set::Soil => queues.largest.fill(170),
+        Set::Queues => put_number(queues.table, 0, line.number_or_0(b"queues")),
     }
 }
 
@@ -63,19 +64,20 @@ pub fn do_change(log: &mut [u8], change: Change, bytes: &[u8], line: Line<'_>) {
 }
 
 pub fn do_show(memory: &Memory<'_>, show: Show) {
+    let Memory { writer, queues } = memory;
     match show {
-        Show::Place => say(b" place ", *memory.write_position as u64),
+        Show::Place => say(b" place ", *writer.write_position as u64),
         Show::Held => {
-            say(b" queues ", memory.table_word(0));
-            say(b" name bytes ", memory.table_word(1));
+            say(b" queues ", table_word(queues.table, 0));
+            say(b" name bytes ", table_word(queues.table, 1));
         }
         Show::Scratch => {
-            if memory.scratch.iter().all(|b| *b == 0) {
+            if writer.scratch.iter().all(|b| *b == 0) {
                 text(b" zero");
             }
         }
         Show::Log => {
-            say_crc(b" log ", memory.log);
+            say_crc(b" log ", writer.log);
             text(b"\n");
         }
     }

@@ -77,9 +77,15 @@ pub enum Show {
     Log,
 }
 
-impl Command {
-    pub fn of(word: &[u8]) -> Option<Command> {
-        Some(match word {
+// A word that is no command.
+#[derive(Clone, Copy)]
+pub struct Unknown;
+
+impl TryFrom<&[u8]> for Command {
+    type Error = Unknown;
+
+    fn try_from(word: &[u8]) -> Result<Command, Unknown> {
+        Ok(match word {
             b"lend" => Command::Lend,
             b"case" => Command::Text(Text::Case),
             b"line" => Command::Text(Text::Line),
@@ -111,7 +117,7 @@ impl Command {
             b"held" => Command::Show(Show::Held),
             b"scratch" => Command::Show(Show::Scratch),
             b"log" => Command::Show(Show::Log),
-            _ => return None,
+            _ => return Err(Unknown),
         })
     }
 }

@@ -14,8 +14,8 @@
 //                         questions: the first record of a queue; that of nine ranges; its largest payload; all queues with their records
 //   replay, reopen, reads   replay; replay and all queues; all reads up to the end of the log. Writing goes on where a replay resumes
 //   stain, move at N, keep number N at N, soil, set queues N
-//                         the scratch filled with aa hex; the write position; one number of the further table; that table filled with aa hex; the number of queues
-//                         in the table
+//                         the scratch filled with aa hex; the write position; one number of the further table; that table filled with aa hex; the number
+//                         of queues in the table
 //   xor at N by N, cut at N, put BYTES at N, fill bytes N at N seed N
 //                         the log changed: one byte; zeros from there on; bytes; a run of bytes
 //   place, held, scratch, log   the write position; queues and name bytes held; whether the scratch is zero; CRC-32 of the log

@@ -25,20 +25,30 @@ impl<'a> Line<'a> {
         split_once(self.rest, b' ').0
     }
 
-    // Whether there is such a word after the command.
+    // Which word after the command is such a word, counted from 0: the first of them, among the first 32.
+    fn place_of(self, word: &[u8]) -> Option<usize> {
+        let mut words = self.rest.split(|b| *b == b' ').take(32);
+        words.position(|w| w == word)
+    }
+
+    // Whether there is one.
     pub fn has(self, word: &[u8]) -> bool {
-        self.rest.split(|b| *b == b' ').any(|w| w == word)
+        self.place_of(word).is_some()
     }
 
     // The number after that word, where there is one.
     pub fn number(self, word: &[u8]) -> Option<u64> {
-        let mut words = self.rest.split(|b| *b == b' ');
-        words.find(|w| *w == word)?;
-        let digits = words.next()?;
+        let place = self.place_of(word)?;
+        let digits = self.rest.split(|b| *b == b' ').skip(place).nth(1)?;
         if digits.is_empty() {
             return None;
         }
         Some(decimal(digits))
+    }
+
+    // The same where the line has that word: 0 where no number stands behind it.
+    pub fn number_of_word(self, word: &[u8]) -> Option<u64> {
+        self.has(word).then(|| self.number_or_0(word))
     }
 
     // The same, or 0.

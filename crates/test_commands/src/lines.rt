@@ -2,7 +2,7 @@
 use crate::answers::text;
 use crate::bytes::bytes_of;
 use crate::changes::{do_change, do_set, do_show};
-use crate::command::{Command, Text};
+use crate::command::{Command, Text, Unknown};
 use crate::line::Line;
 use crate::memory::{Lent, Memory, Store};
 use crate::questions::ask;
@@ -21,19 +21,19 @@ fn print(kind: Text, words: &[u8]) {
 }
 
 // A command in as much memory as is lent. An unknown one is printed.
-fn do_command(memory: &mut Memory<'_>, command: Option<Command>, line: Line<'_>) {
+fn do_command(memory: &mut Memory<'_>, command: Result<Command, Unknown>, line: Line<'_>) {
     let mut buffer = [0u8; 65536];
     let bytes = bytes_of(line.name(), &mut buffer);
     match command {
-        Some(Command::Lend) => {}
-        Some(Command::Text(kind)) => print(kind, line.rest),
-        Some(Command::Write(write)) => do_write(memory, write, bytes, line),
-        Some(Command::Ask(question)) => ask(memory, question, bytes, line),
-        Some(Command::Look(look)) => do_look(memory, look),
-        Some(Command::Set(set)) => do_set(memory, set, line),
-        Some(Command::Change(change)) => do_change(memory.log, change, bytes, line),
-        Some(Command::Show(show)) => do_show(memory, show),
-        None => {
+        Ok(Command::Lend) => {}
+        Ok(Command::Text(kind)) => print(kind, line.rest),
+        Ok(Command::Write(write)) => do_write(memory, write, bytes, line),
+        Ok(Command::Ask(question)) => ask(memory.queues.held(), question, bytes, line),
+        Ok(Command::Look(look)) => do_look(memory, look),
+        Ok(Command::Set(set)) => do_set(memory, set, line),
+        Ok(Command::Change(change)) => do_change(memory.writer.log, change, bytes, line),
+        Ok(Command::Show(show)) => do_show(memory, show),
+        Err(Unknown) => {
             text(b" unknown command ");
             text(line.text);
         }
@@ -42,9 +42,9 @@ fn do_command(memory: &mut Memory<'_>, command: Option<Command>, line: Line<'_>)
 
 // Does a line, and answers what is lent after it.
 fn do_line(store: &mut Store, line: Line<'_>, lent: Lent) -> Lent {
-    let command = Command::of(line.command);
+    let command = Command::try_from(line.command);
     let lent = match command {
-        Some(Command::Lend) => Lent::ALL.said(line),
+        Ok(Command::Lend) => Lent::ALL.said(line),
         _ => lent,
     };
     do_command(&mut store.lend(lent.said(line)), command, line);

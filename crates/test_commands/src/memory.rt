@@ -1,9 +1,7 @@
 // The memory of a case, and how much of it is lent to the calls.
 use crate::answers::sum;
 use crate::line::Line;
-use multi_record_log::{
-    AtPosition, Called, Lower, QuestionAnswer, ReadStep, Reader, ReplayAnswer, Upper,
-};
+use multi_record_log::{LogWriter, QueueMemory};
 
 // The memory of all cases.
 #[derive(Drop)]
@@ -18,17 +16,11 @@ pub struct Store {
     pub table: [u8; 2000],
 }
 
-// What is lent of it: the log with the write position, the scratch, and the queue memory.
+// What is lent of it: the log with the write position and the scratch, and the queue memory.
 #[derive(Drop)]
 pub struct Memory<'a> {
-    pub log: &'a mut [u8],
-    pub write_position: &'a mut usize,
-    pub scratch: &'a mut [u8],
-    pub names: &'a mut [u8],
-    pub payloads: &'a mut [u8],
-    pub entries: &'a mut [u8],
-    pub largest: &'a mut [u8],
-    pub table: &'a mut [u8],
+    pub writer: LogWriter<'a>,
+    pub queues: QueueMemory<'a, u8, u8>,
 }
 
 // How many bytes of each memory are lent, where it has as many.
@@ -100,156 +92,42 @@ impl Store {
             largest,
             table,
         } = self;
-        Memory {
+        let writer = LogWriter {
             log: first(log, lent.log),
             write_position,
             scratch: first(scratch, lent.scratch),
+        };
+        let queues = QueueMemory {
             names: first(names, lent.names),
             payloads: first(payloads, lent.payloads),
             entries: first(entries, lent.entries),
             largest: first(largest, lent.largest),
             table: first(table, lent.table),
-        }
+        };
+        Memory { writer, queues }
     }
 }
 
 impl Memory<'_> {
     pub fn sums(&self) -> Sums {
         Sums {
-            log: sum(self.log),
-            write_position: *self.write_position,
-            scratch: sum(self.scratch),
-            names: sum(self.names),
-            payloads: sum(self.payloads),
-            entries: sum(self.entries),
-            largest: sum(self.largest),
-            table: sum(self.table),
+            log: sum(self.writer.log),
+            write_position: *self.writer.write_position,
+            scratch: sum(self.writer.scratch),
+            names: sum(self.queues.names),
+            payloads: sum(self.queues.payloads),
+            entries: sum(self.queues.entries),
+            largest: sum(self.queues.largest),
+            table: sum(self.queues.table),
         }
     }
+}
 
-    // A word of the table of queues, 0 where there is none.
-    pub fn table_word(&self, k: usize) -> u64 {
-        if k < self.table.len() / 8 {
-            fields::u64_at(self.table, 8 * k)
-        } else {
-            0
-        }
-    }
-
-    pub fn create(&mut self, name: &[u8]) -> Called {
-        multi_record_log::create(
-            self.log,
-            self.write_position,
-            self.scratch,
-            self.names,
-            self.payloads,
-            self.entries,
-            self.largest,
-            self.table,
-            name,
-        )
-    }
-
-    pub fn delete(&mut self, name: &[u8]) -> Called {
-        multi_record_log::delete(
-            self.log,
-            self.write_position,
-            self.scratch,
-            self.names,
-            self.payloads,
-            self.entries,
-            self.largest,
-            self.table,
-            name,
-        )
-    }
-
-    pub fn truncate(&mut self, name: &[u8], through: u64) -> Called {
-        multi_record_log::truncate(
-            self.log,
-            self.write_position,
-            self.scratch,
-            self.names,
-            self.payloads,
-            self.entries,
-            self.largest,
-            self.table,
-            name,
-            through,
-        )
-    }
-
-    pub fn append(&mut self, name: &[u8], at: AtPosition, payloads: &[u8], lens: &[u64]) -> Called {
-        multi_record_log::append(
-            self.log,
-            self.write_position,
-            self.scratch,
-            self.names,
-            self.payloads,
-            self.entries,
-            self.largest,
-            self.table,
-            name,
-            at,
-            payloads,
-            lens,
-        )
-    }
-
-    pub fn mark(&mut self, shift: u64, clock: u64) -> Called {
-        multi_record_log::mark(self.log, self.write_position, self.scratch, shift, clock)
-    }
-
-    pub fn replay(&mut self) -> ReplayAnswer {
-        let log = &mut *self.log;
-        multi_record_log::replay(
-            log,
-            self.scratch,
-            self.names,
-            self.payloads,
-            self.entries,
-            self.largest,
-            self.table,
-        )
-    }
-
-    pub fn read_from(&mut self, reader: Reader) -> ReadStep {
-        let log = &mut *self.log;
-        multi_record_log::read_from(log, self.scratch, reader)
-    }
-
-    pub fn positions(&self, name: &[u8]) -> QuestionAnswer {
-        multi_record_log::positions(
-            self.names,
-            self.payloads,
-            self.entries,
-            self.largest,
-            self.table,
-            name,
-        )
-    }
-
-    pub fn range(&self, name: &[u8], lower: Lower, upper: Upper) -> QuestionAnswer {
-        multi_record_log::range(
-            self.names,
-            self.payloads,
-            self.entries,
-            self.largest,
-            self.table,
-            name,
-            lower,
-            upper,
-        )
-    }
-
-    pub fn largest(&self, name: &[u8]) -> QuestionAnswer {
-        multi_record_log::largest(
-            self.names,
-            self.payloads,
-            self.entries,
-            self.largest,
-            self.table,
-            name,
-        )
+// A word of the table of queues, 0 where there is none.
+pub fn table_word(table: &[u8], k: usize) -> u64 {
+    if k < table.len() / 8 {
+        fields::u64_at(table, 8 * k)
+    } else {
+        0
     }
 }

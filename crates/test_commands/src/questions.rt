@@ -2,87 +2,84 @@
 use crate::answers::{refused, say, say_bytes, say_record, text};
 use crate::command::Ask;
 use crate::line::Line;
-use crate::memory::Memory;
-use multi_record_log::{Lower, QuestionAnswer, Upper};
+use crate::memory::table_word;
+use multi_record_log::{HeldMemory, Payload, QuestionAnswer, Refusal, largest, positions, range};
+use std::ops::Bound;
 
-fn say_answer(payloads: &[u8], answer: QuestionAnswer) {
+fn say_answer(payloads: &[u8], answer: Result<QuestionAnswer, Refusal>) {
     match answer {
-        QuestionAnswer::Positions { start, next } => {
+        Ok(QuestionAnswer::Positions { start, next }) => {
             say(b" start ", start);
             say(b" next ", next);
         }
-        QuestionAnswer::Record {
-            position,
-            start,
-            length,
-        } => say_record(payloads, position, start, length),
-        QuestionAnswer::Largest { length, position } => {
+        Ok(QuestionAnswer::Record(Some(found))) => {
+            say_record(payloads, found.position, found.start, found.length)
+        }
+        Ok(QuestionAnswer::Largest(Some(Payload { length, position }))) => {
             say(b" largest ", length as u64);
             say(b" at ", position);
         }
-        QuestionAnswer::Nothing => text(b" none"),
-        QuestionAnswer::Refused(n) => refused(n),
+        Ok(QuestionAnswer::Record(None)) | Ok(QuestionAnswer::Largest(None)) => text(b" none"),
+        Err(refusal) => refused(refusal),
     }
 }
 
 // The first record of a queue, or that after a position: its position and length.
-fn first(memory: &Memory<'_>, name: &[u8], line: Line<'_>) {
-    let lower = line.number(b"after").map_or(Lower::Unbounded, Lower::After);
-    match memory.range(name, lower, Upper::Unbounded) {
-        QuestionAnswer::Record {
-            position,
-            length,
-            ..
-        } => {
-            say(b" record ", position);
-            say(b" of ", length as u64);
+fn first(memory: HeldMemory<'_, u8, u8>, name: &[u8], line: Line<'_>) {
+    let lower = line
+        .number_of_word(b"after")
+        .map_or(Bound::Unbounded, Bound::Excluded);
+    match range(memory, name, lower, Bound::Unbounded) {
+        Ok(QuestionAnswer::Record(Some(found))) => {
+            say(b" record ", found.position);
+            say(b" of ", found.length as u64);
         }
         other => say_answer(memory.payloads, other),
     }
 }
 
 // The first record of each range: lower bound none, from and after a position, each with upper bound none, through and before another.
-fn ranges(memory: &Memory<'_>, name: &[u8], line: Line<'_>) {
+fn ranges(memory: HeldMemory<'_, u8, u8>, name: &[u8], line: Line<'_>) {
     let from = line.number_or_0(b"from");
     let to = line.number_or_0(b"to");
     text(b"range");
-    for lower in [Lower::Unbounded, Lower::From(from), Lower::After(from)] {
-        for upper in [Upper::Unbounded, Upper::Through(to), Upper::Before(to)] {
-            say_answer(memory.payloads, memory.range(name, lower, upper));
+    for lower in [
+        Bound::Unbounded,
+        Bound::Included(from),
+        Bound::Excluded(from),
+    ] {
+        for upper in [Bound::Unbounded, Bound::Included(to), Bound::Excluded(to)] {
+            say_answer(memory.payloads, range(memory, name, lower, upper));
         }
     }
     text(b"\n");
 }
 
 // All records of a queue, one question after the other.
-fn show_records(memory: &Memory<'_>, name: &[u8]) {
-    let mut lower = Lower::Unbounded;
+fn show_records(memory: HeldMemory<'_, u8, u8>, name: &[u8]) {
+    let mut lower = Bound::Unbounded;
     for _ in 0..1025 {
-        let QuestionAnswer::Record {
-            position,
-            start,
-            length,
-        } = memory.range(name, lower, Upper::Unbounded)
-        else {
+        let answer = range(memory, name, lower, Bound::Unbounded);
+        let Ok(QuestionAnswer::Record(Some(found))) = answer else {
             return;
         };
-        say_record(memory.payloads, position, start, length);
-        lower = Lower::After(position);
+        say_record(memory.payloads, found.position, found.start, found.length);
+        lower = Bound::Excluded(found.position);
     }
 }
 
-fn show_queue(memory: &Memory<'_>, name: &[u8]) {
+fn show_queue(memory: HeldMemory<'_, u8, u8>, name: &[u8]) {
     say_bytes(b"queue ", name);
-    say_answer(memory.payloads, memory.positions(name));
+    say_answer(memory.payloads, positions(memory, name));
     show_records(memory, name);
     text(b"\n");
 }
 
 // All queues, at most 64, in byte order of their names: these stand one after the other, and the table has their lengths.
-pub fn show_queues(memory: &Memory<'_>) {
-    let mut names: &[u8] = memory.names;
-    for k in 0..memory.table_word(0).min(64) as usize {
-        let len = memory.table_word(4 + 3 * k) as usize;
+pub fn show_queues(memory: HeldMemory<'_, u8, u8>) {
+    let mut names = memory.names;
+    for k in 0..table_word(memory.table, 0).min(64) as usize {
+        let len = table_word(memory.table, 4 + 3 * k) as usize;
         if let Some((name, others)) = names.split_at_checked(len) {
             show_queue(memory, name);
             names = others;
@@ -90,12 +87,12 @@ pub fn show_queues(memory: &Memory<'_>) {
     }
 }
 
-pub fn ask(memory: &Memory<'_>, question: Ask, name: &[u8], line: Line<'_>) {
+pub fn ask(memory: HeldMemory<'_, u8, u8>, question: Ask, name: &[u8], line: Line<'_>) {
     match question {
-        Ask::Positions => say_answer(memory.payloads, memory.positions(name)),
+        Ask::Positions => say_answer(memory.payloads, positions(memory, name)),
         Ask::First => first(memory, name, line),
         Ask::Ranges => ranges(memory, name, line),
-        Ask::Largest => say_answer(memory.payloads, memory.largest(name)),
+        Ask::Largest => say_answer(memory.payloads, largest(memory, name)),
         Ask::Queues => show_queues(memory),
     }
 }

@@ -1,25 +1,19 @@
 // Replay, and all reads of a log.
 use crate::answers::{refused, replayed, say, say_part, say_record, text};
 use crate::command::Look;
-use crate::memory::Memory;
+use crate::memory::{Memory, table_word};
 use crate::questions::show_queues;
-use frame::{Corruption, Reader};
-use multi_record_log::ReplayAnswer;
-use read_step::{Lost, ReadAnswer};
-use record::{MultiPlexedRecord, MultiRecord, NextItem};
+use multi_record_log::{
+    Corruption, LogWriter, Lost, MultiPlexedRecord, QueueMemory, ReadAnswer, Reader,
+};
+use record::MultiRecord;
 
 // The items of an append, item after item.
 fn show_items(s: &[u8], items: MultiRecord) {
     let mut left = items;
-    while let NextItem::Item {
-        position,
-        start,
-        len,
-        rest,
-    } = record::next_item(s, left)
-    {
-        say_record(s, position, start, len);
-        left = rest;
+    while let Ok(Some(item)) = record::next_item(s, left) {
+        say_record(s, item.position, item.start, item.len);
+        left = item.rest;
     }
 }
 
@@ -62,7 +56,6 @@ fn show_decoded(s: &[u8], r: MultiPlexedRecord) {
             say(b"read mark ", position);
             say_part(b" body ", s, body_start, 8);
         }
-        MultiPlexedRecord::None => {}
     }
 }
 
@@ -84,8 +77,8 @@ fn show_read(s: &[u8], answer: ReadAnswer) -> bool {
             text(b"read end\n");
             return false;
         }
-        ReadAnswer::Refused(n) => {
-            refused(n);
+        ReadAnswer::Refused(refusal) => {
+            refused(refusal);
             return false;
         }
     }
@@ -94,35 +87,36 @@ fn show_read(s: &[u8], answer: ReadAnswer) -> bool {
 }
 
 // All reads up to end of log; a reader gives fewer answers than 4,681 for each block.
-fn show_reads(memory: &mut Memory<'_>) {
+fn show_reads(writer: &mut LogWriter<'_>) {
     let mut reader = Reader::new();
     for _ in 0..15000 {
-        let step = memory.read_from(reader);
-        if !show_read(memory.scratch, step.answer) {
+        let log = &mut *writer.log;
+        let answer = multi_record_log::read(log, writer.scratch, &mut reader);
+        if !show_read(writer.scratch, answer) {
             return;
         }
-        reader = step.reader;
     }
 }
 
 // Replay; writing goes on where it resumes.
-fn replay(memory: &mut Memory<'_>) {
-    let answer = memory.replay();
-    replayed(answer, memory.table_word(0));
-    if let ReplayAnswer::Replayed { resumed, .. } = answer {
-        *memory.write_position = resumed;
+fn replay(writer: &mut LogWriter<'_>, queues: &mut QueueMemory<'_, u8, u8>) {
+    let log = &mut *writer.log;
+    let answer = multi_record_log::replay(log, writer.scratch, queues);
+    replayed(answer, table_word(queues.table, 0));
+    if let Ok(replayed) = answer {
+        *writer.write_position = replayed.resumed;
     }
 }
 
 pub fn do_look(memory: &mut Memory<'_>, look: Look) {
     match look {
-        Look::Replay => replay(memory),
+        Look::Replay => replay(&mut memory.writer, &mut memory.queues),
         Look::Reopen => {
             text(b"replay");
-            replay(memory);
+            replay(&mut memory.writer, &mut memory.queues);
             text(b"\n");
-            show_queues(memory);
+            show_queues(memory.queues.held());
         }
-        Look::Reads => show_reads(memory),
+        Look::Reads => show_reads(&mut memory.writer),
     }
 }

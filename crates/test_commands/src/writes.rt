@@ -4,7 +4,7 @@ use crate::bytes::fill;
 use crate::command::Write;
 use crate::line::Line;
 use crate::memory::Memory;
-use multi_record_log::{AtPosition, Called};
+use multi_record_log::{Called, Refusal};
 
 // The lengths of payloads that have this many bytes in all: the first has all of them, or, where they are spread evenly, each as many as the next or one more.
 fn spread(lens: &mut [u64], bytes: u64, even: bool) {
@@ -22,7 +22,7 @@ fn spread(lens: &mut [u64], bytes: u64, even: bool) {
 }
 
 // An append of payloads, at most 98,304 bytes in 1,025 of them; none is made of more.
-fn append(memory: &mut Memory<'_>, name: &[u8], line: Line<'_>) -> Option<Called> {
+fn append(memory: &mut Memory<'_>, name: &[u8], line: Line<'_>) -> Option<Result<Called, Refusal>> {
     let mut run = [0u8; 98304];
     let mut lens = [0u64; 1025];
     fill(&mut run, line.number_or_0(b"seed"));
@@ -33,19 +33,36 @@ fn append(memory: &mut Memory<'_>, name: &[u8], line: Line<'_>) -> Option<Called
         line.number(b"sum").unwrap_or(bytes as u64),
         line.has(b"even"),
     );
-    let at = line
-        .number(b"at")
-        .map_or(AtPosition::Next, AtPosition::Named);
-    Some(memory.append(name, at, &run[..bytes], payloads))
+    Some(multi_record_log::append(
+        &mut memory.writer,
+        &mut memory.queues,
+        name,
+        line.number_of_word(b"at"),
+        &run[..bytes],
+        payloads,
+    ))
 }
 
-fn call(memory: &mut Memory<'_>, write: Write, name: &[u8], line: Line<'_>) -> Option<Called> {
+fn call(
+    memory: &mut Memory<'_>,
+    write: Write,
+    name: &[u8],
+    line: Line<'_>,
+) -> Option<Result<Called, Refusal>> {
+    let Memory { writer, queues } = memory;
     match write {
-        Write::Create => Some(memory.create(name)),
-        Write::Delete => Some(memory.delete(name)),
-        Write::Truncate => Some(memory.truncate(name, line.number_or_0(b"through"))),
+        Write::Create => Some(multi_record_log::create(writer, queues, name)),
+        Write::Delete => Some(multi_record_log::delete(writer, queues, name)),
+        Write::Truncate => {
+            let through = line.number_or_0(b"through");
+            Some(multi_record_log::truncate(writer, queues, name, through))
+        }
         Write::Append => append(memory, name, line),
-        Write::Mark => Some(memory.mark(line.number_or_0(b"shift"), line.number_or_0(b"clock"))),
+        Write::Mark => {
+            let shift = line.number_or_0(b"shift");
+            let clock = line.number_or_0(b"clock");
+            Some(multi_record_log::mark(writer, shift, clock))
+        }
     }
 }
 

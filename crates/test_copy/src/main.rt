@@ -4,11 +4,19 @@
 // the target's whole blocks, of what lies after them and of the scratch. The target is full of hex ee before, the scratch of hex 5a.
 #![tactic(auto)]
 
-use multi_record_log::{CopyAnswer, ReplayAnswer};
+use multi_record_log::{HeldMemory, QueueMemory, Refusal, Replayed};
 use std::alloc::Global;
 use std::io::{self, Read};
 
+// The most bytes of a log, of a target and of a scratch; into more of these nothing is copied.
+const LONGEST_LOG: usize = 131072;
+
+const LONGEST_TARGET: usize = 196607;
+
+const LONGEST_SCRATCH: usize = 131072;
+
 // The memory of the queues.
+// Kept: no plainer: the example and two tests have such a struct, of other sizes; one would take five const parameters, and the example stands alone.
 #[derive(Drop)]
 struct Queues {
     names: [u8; 98304],
@@ -18,10 +26,13 @@ struct Queues {
     table: [u8; 1568],
 }
 
-// What a case says beside its log: its title, how long the target and the scratch are, and the byte that is put into the table, at a place from 1 on.
+// What a case says: its title, how long the log is and how many of its bytes are stored, how long the target and the scratch are, and the byte that is put into
+// the table, at a place from 1 on.
 #[derive(Clone, Copy)]
 struct Case {
     title: [u8; 32],
+    log_len: usize,
+    stored: usize,
     target_len: usize,
     scratch_len: usize,
     place: usize,
@@ -37,28 +48,26 @@ fn crc(s: &[u8]) -> u32 {
 }
 
 impl Queues {
-    fn replay(&mut self, log: &[u8]) -> ReplayAnswer {
-        multi_record_log::replay(
-            log,
-            &mut [0u8; 131072],
-            &mut self.names,
-            &mut self.payloads,
-            &mut self.entries,
-            &mut self.largest,
-            &mut self.table,
-        )
+    fn replay(&mut self, log: &[u8]) -> Result<Replayed, Refusal> {
+        let mut memory = QueueMemory {
+            names: &mut self.names,
+            payloads: &mut self.payloads,
+            entries: &mut self.entries,
+            largest: &mut self.largest,
+            table: &mut self.table,
+        };
+        multi_record_log::replay(log, &mut [0u8; 131072], &mut memory)
     }
 
-    fn copy(&self, target: &mut [u8], scratch: &mut [u8]) -> CopyAnswer {
-        multi_record_log::copy(
-            target,
-            scratch,
-            &self.names,
-            &self.payloads,
-            &self.entries,
-            &self.largest,
-            &self.table,
-        )
+    fn copy(&self, target: &mut [u8], scratch: &mut [u8]) -> Result<usize, Refusal> {
+        let memory = HeldMemory {
+            names: &self.names,
+            payloads: &self.payloads,
+            entries: &self.entries,
+            largest: &self.largest,
+            table: &self.table,
+        };
+        multi_record_log::copy(target, scratch, memory)
     }
 
     // One number that stands for the whole memory.
@@ -71,34 +80,15 @@ impl Queues {
     }
 }
 
-fn length(low: u8, middle: u8, high: u8) -> usize {
-    u32::from_le_bytes([low, middle, high, 0]) as usize
-}
-
 // The number in the next three bytes.
 fn next_length(input: &mut impl Read) -> io::Result<usize> {
-    let mut bytes = [0u8; 3];
-    input.read_exact(&mut bytes)?;
-    let [low, middle, high] = bytes;
-    Ok(length(low, middle, high))
+    let mut bytes = [0u8; 4];
+    input.read_exact(&mut bytes[..3])?;
+    Ok(u32::from_le_bytes(bytes) as usize)
 }
 
-// The log: the bytes that are stored, and zeros after them.
-fn next_log(
-    alloc: Global,
-    input: &mut impl Read,
-    len: usize,
-    stored: usize,
-) -> io::Result<Vec<u8>> {
-    let mut log = vec![in alloc; 0u8; len]?;
-    if let Some(bytes) = log.as_mut_slice().get_mut(..stored) {
-        input.read_exact(bytes)?;
-    }
-    Ok(log)
-}
-
-// The next case and its log; an error where there is none.
-fn next_case(alloc: Global, input: &mut impl Read) -> io::Result<(Case, Vec<u8>)> {
+// What the next case says, or an error where there is none.
+fn next_case(input: &mut impl Read) -> io::Result<Case> {
     let mut title = [0u8; 32];
     input.read_exact(&mut title)?;
     let log_len = next_length(input)?;
@@ -108,42 +98,64 @@ fn next_case(alloc: Global, input: &mut impl Read) -> io::Result<(Case, Vec<u8>)
     let place = next_length(input)?;
     let mut value = [0u8; 1];
     input.read_exact(&mut value)?;
-    let case = Case {
+    Ok(Case {
         title,
+        log_len,
+        stored,
         target_len,
         scratch_len,
         place,
         value: value[0],
+    })
+}
+
+// The log: the bytes that are stored, as far as they can be read, and zeros after them. There is none that is longer than four blocks or has fewer bytes than
+// are stored.
+fn next_log(alloc: Global, input: &mut impl Read, case: Case) -> io::Result<Option<Vec<u8>>> {
+    if LONGEST_LOG < case.log_len {
+        return Ok(None);
+    }
+    let mut log = vec![in alloc; 0u8; case.log_len]?;
+    let Some(stored) = log.as_mut_slice().get_mut(..case.stored) else {
+        return Ok(None);
     };
-    Ok((case, next_log(alloc, input, log_len, stored)?))
+    let _ = input.read_exact(stored);
+    Ok(Some(log))
 }
 
-fn tell_replay(rt: &impl Print, answer: ReplayAnswer) -> io::Result<()> {
+fn tell_replay(rt: &impl Print, answer: Result<Replayed, Refusal>) -> io::Result<()> {
     match answer {
-        ReplayAnswer::Replayed { resumed, .. } => print!(rt; "replayed to {resumed}"),
-        ReplayAnswer::Refused(n) => print!(rt; "replay refused {n}"),
+        Ok(Replayed { resumed, .. }) => print!(rt; "replayed to {resumed}"),
+        Err(refusal) => print!(rt; "replay refused {}", refusal.number()),
     }
 }
 
-fn tell_copy(rt: &impl Print, answer: CopyAnswer) -> io::Result<()> {
+fn tell_copy(rt: &impl Print, answer: Result<usize, Refusal>) -> io::Result<()> {
     match answer {
-        CopyAnswer::Copied(end) => print!(rt; ", copied to {end}"),
-        CopyAnswer::Refused(n) => print!(rt; ", refused {n}"),
+        Ok(end) => print!(rt; ", copied to {end}"),
+        Err(refusal) => print!(rt; ", refused {}", refusal.number()),
     }
 }
 
-// The copy, and what it leaves: the target's whole blocks and what lies after them, the scratch, and the queues.
+// The copy, and what it leaves: the target's whole blocks and what lies after them, and the scratch.
 fn copy(rt: &(impl Print + AllocGlobal), queues: &Queues, case: Case) -> io::Result<()> {
     let mut target = vec![in rt.alloc(); 0xeeu8; case.target_len]?;
     let mut scratch = vec![in rt.alloc(); 0x5au8; case.scratch_len]?;
-    let before = queues.sum();
     tell_copy(
         rt,
         queues.copy(target.as_mut_slice(), scratch.as_mut_slice()),
     )?;
     let (blocks, tail) = target.split_at(target.len() / 32768 * 32768);
     let (blocks, tail, scratch) = (crc(blocks), crc(tail), crc(scratch.as_slice()));
-    print!(rt; ", blocks {blocks:08x}, tail {tail:08x}, scratch {scratch:08x}")?;
+    print!(rt; ", blocks {blocks:08x}, tail {tail:08x}, scratch {scratch:08x}")
+}
+
+// The same, and whether the queues stay.
+fn copy_kept(rt: &(impl Print + AllocGlobal), queues: &Queues, case: Case) -> io::Result<()> {
+    let before = queues.sum();
+    if case.target_len <= LONGEST_TARGET && case.scratch_len <= LONGEST_SCRATCH {
+        copy(rt, queues, case)?;
+    }
     let kept = if before == queues.sum() {
         "stay"
     } else {
@@ -161,20 +173,23 @@ fn run(rt: &(impl Print + AllocGlobal), case: Case, log: &[u8]) -> io::Result<()
         largest: [0; 8192],
         table: [0; 1568],
     };
-    rt.write_all(&case.title)?;
     tell_replay(rt, queues.replay(log))?;
     if let Some(index) = case.place.checked_sub(1) {
         if let Some(byte) = queues.table.get_mut(index) {
             *byte = case.value;
         }
     }
-    copy(rt, &queues, case)
+    copy_kept(rt, &queues, case)
 }
 
 fn main(rt: HostRuntime) -> io::Result<()> {
     let mut input = rt.stdin();
     for _ in 0..1000 {
-        let Ok((case, log)) = next_case(rt.alloc(), &mut input) else {
+        let Ok(case) = next_case(&mut input) else {
+            break;
+        };
+        rt.write_all(&case.title)?;
+        let Some(log) = next_log(rt.alloc(), &mut input, case)? else {
             break;
         };
         run(&rt, case, log.as_slice())?;

@@ -3,34 +3,47 @@
 // there 0 times ends it.
 #![tactic(auto)]
 
-use std::alloc::Global;
-use std::io::Read;
+use listing::Text;
 
-// A byte more than an input may have at most: what follows is dropped.
+// A byte more than an input may have at most; the program ends at a stored input that is longer.
 const LONGEST: usize = 65537;
 
-// The next input, where there is one.
-fn next_input(alloc: Global, stored: &mut impl Read) -> std::io::Result<Option<Vec<u8>>> {
-    let mut input = Vec::new(alloc);
-    for _ in 0..10000 {
-        let mut head = [0u8; 4];
-        if stored.read_exact(&mut head).is_err() {
-            break;
-        }
-        let [a, b, c, d] = head;
-        let times = u16::from_le_bytes([a, b]);
-        if times == 0 {
-            input.truncate(LONGEST);
-            return Ok(Some(input));
-        }
-        let len = usize::from(u16::from_le_bytes([c, d]));
-        let mut part = vec![in alloc; 0u8; len]?;
-        stored.read_exact(part.as_mut_slice())?;
-        for _ in 0..times {
-            input.extend_from_slice(part.as_slice())?;
-        }
+// How often a part stands there, and its length.
+fn next_head() -> Option<(u16, usize)> {
+    let mut head = [0u8; 4];
+    if io::read_full(0, &mut head) < head.len() {
+        return None;
     }
-    Ok(None)
+    let [a, b, c, d] = head;
+    Some((
+        u16::from_le_bytes([a, b]),
+        usize::from(u16::from_le_bytes([c, d])),
+    ))
+}
+
+// The bytes of a part, as often as it stands there; zeros for those that standard input has no more.
+fn put_part(input: &mut Text, times: u16, len: usize) {
+    let mut part = [0u8; 65536];
+    let Some(part) = part.get_mut(..len) else {
+        return;
+    };
+    io::read_full(0, part);
+    for _ in 0..times {
+        input.put_bytes(part);
+    }
+}
+
+// The next input, where there is one: its length.
+fn next_input(input: &mut [u8]) -> Option<usize> {
+    let mut input = Text { out: input, at: 0 };
+    for _ in 0..10000 {
+        let (times, len) = next_head()?;
+        if times == 0 {
+            return input.listed();
+        }
+        put_part(&mut input, times, len);
+    }
+    None
 }
 
 fn crc(log: &[u8]) -> u32 {
@@ -55,13 +68,18 @@ fn show(input: &[u8], log: &mut [u8; 65536]) {
     print(&out[..n], log);
 }
 
-fn main(rt: HostRuntime) -> std::io::Result<()> {
-    let mut stored = rt.stdin();
+// The next input, driven, where there is one.
+fn show_next() -> Option<()> {
+    let mut input = [0u8; LONGEST];
+    let len = next_input(&mut input)?;
+    show(input.get(..len)?, &mut [0u8; 65536]);
+    Some(())
+}
+
+fn main() {
     for _ in 0..1000 {
-        let Some(input) = next_input(rt.alloc(), &mut stored)? else {
-            break;
-        };
-        show(input.as_slice(), &mut [0u8; 65536]);
+        if show_next().is_none() {
+            return;
+        }
     }
-    Ok(())
 }

@@ -10,6 +10,7 @@ use std::array;
 
 const STDOUT: i32 = 1;
 
+// Kept: no plainer: with `print!` each function here takes the runtime and answers a result, and no line gets shorter by it.
 fn text(s: &[u8]) {
     io::write_all(STDOUT, s);
 }

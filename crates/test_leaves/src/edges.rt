@@ -1,7 +1,5 @@
 // Runs the edges of UTF-8's grammar through `utf8::is_utf8`, and prints for each name its bytes,
 // what was said of it and what should be said, by Python's decoder (`bytes.decode`, UTF-8, strict).
-ghost use Rattle.std.specs.Prelude.{◌+◌, ◌<◌};
-
 use crate::STDOUT;
 
 // The bytes in hex, or a dash where there are none.
@@ -136,35 +134,32 @@ fn several() {
     );
 }
 
-// What is said of a long name, in ASCII but for two bytes at a place.
-fn long_name(place: usize, first: u8, second: u8) -> bool
-    requires { place + 1 < 1000 }
-{
-    let mut name = [0x61u8; 1000];
-    name[place] = first;
-    name[place + 1] = second;
-    utf8::is_utf8(&name)
-}
-
-fn run_long(place: usize, first: u8, second: u8, right: bool)
-    requires { place + 1 < 1000 }
-{
-    io::write_all(STDOUT, b"61 1000 times, at ");
-    io::print_decimal(STDOUT, place as u64);
-    io::write_all(STDOUT, b" ");
-    print_bytes(&[first, second]);
-    print_answers(long_name(place, first, second), right);
+// A long name, in ASCII but for two bytes at a place.
+fn long_name(place: usize, pair: [u8; 2]) -> [u8; 1000] {
+    let mut name = [0x61; 1000];
+    for (byte, other) in name.iter_mut().skip(place).zip(pair) {
+        *byte = other;
+    }
+    name
 }
 
 fn long_names() {
-    run_long(0, 0x61, 0x61, true);
-    run_long(0, 0x80, 0x61, false);
-    run_long(0, 0xc3, 0xa9, true);
-    run_long(15, 0xc3, 0xa9, true);
-    run_long(31, 0xc3, 0x61, false);
-    run_long(998, 0xc3, 0xa9, true);
-    run_long(998, 0x61, 0xc3, false);
-    run_long(998, 0x61, 0x80, false);
+    for (place, pair, right) in [
+        (0, [0x61, 0x61], true),
+        (0, [0x80, 0x61], false),
+        (0, [0xc3, 0xa9], true),
+        (15, [0xc3, 0xa9], true),
+        (31, [0xc3, 0x61], false),
+        (998, [0xc3, 0xa9], true),
+        (998, [0x61, 0xc3], false),
+        (998, [0x61, 0x80], false),
+    ] {
+        io::write_all(STDOUT, b"61 1000 times, at ");
+        io::print_decimal(STDOUT, place as u64);
+        io::write_all(STDOUT, b" ");
+        print_bytes(&pair);
+        print_answers(utf8::is_utf8(&long_name(place, pair)), right);
+    }
 }
 
 // All of them.

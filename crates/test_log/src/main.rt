@@ -13,7 +13,7 @@ fn set(log: &mut [u8], at: usize, b: u8) {
 
 fn read_all(log: &[u8], data: &[u8]) {
     let mut scratch = [0u8; 70000];
-    read_into(log, &mut scratch, data, true);
+    read_into(log, &mut scratch, Some(data));
 }
 
 // Records in two blocks: 5 bytes and 32,749 fill the first, 7 follow in the second.
@@ -82,7 +82,7 @@ fn long_for_scratch(log: &mut [u8], data: &[u8]) {
     put(log, 27, data, 21);
     text(b"longer than a scratch of 20:");
     let mut scratch = [0u8; 20];
-    read_into(log, &mut scratch, data, true);
+    read_into(log, &mut scratch, Some(data));
     text(b" | r20 X\n");
 }
 
@@ -106,7 +106,7 @@ fn most_frames_in(log: &mut [u8], data: &[u8]) {
     put(log, 32767, data, 0);
     text(b" answers ");
     let mut scratch = [0u8; 8];
-    let all = read_into(log, &mut scratch, data, false);
+    let all = read_into(log, &mut scratch, None);
     number(all.count);
     text(b" | place 32767 13 answers 4681\n");
 }

@@ -13,6 +13,7 @@ pub struct AllRead {
     pub reader: Reader,
 }
 
+// Kept: no plainer: these functions can't fail, and with `print!` each of them takes the runtime and answers a result, and so does each one that calls them.
 pub fn text(s: &[u8]) {
     io::write_all(1, s);
 }
@@ -33,18 +34,15 @@ pub fn count_up(s: &mut [u8]) {
 }
 
 // A record of the first n bytes of data at a place; there is none where the data are shorter.
-fn write(log: &mut [u8], place: usize, data: &[u8], n: usize) -> RecordWrite {
-    match data.get(..n) {
-        Some(record) => recordlog::write_record(&[], log, place, record),
-        None => RecordWrite::NoRoom,
-    }
+fn write(log: &mut [u8], place: usize, data: &[u8], n: usize) -> Option<RecordWrite> {
+    recordlog::write_record(&[], log, place, data.get(..n)?)
 }
 
 // The same. Answers the place after it; where there is no room, 13 is printed and the place stays.
 pub fn put(log: &mut [u8], place: usize, data: &[u8], n: usize) -> usize {
     match write(log, place, data, n) {
-        RecordWrite::Written { next, .. } => next,
-        RecordWrite::NoRoom => {
+        Some(written) => written.next,
+        None => {
             text(b" 13");
             place
         }
@@ -54,17 +52,13 @@ pub fn put(log: &mut [u8], place: usize, data: &[u8], n: usize) -> usize {
 // The same, with the two counts printed: frame bytes + padding bytes.
 pub fn put_counted(log: &mut [u8], place: usize, data: &[u8], n: usize) {
     match write(log, place, data, n) {
-        RecordWrite::Written {
-            frame_bytes,
-            padding_bytes,
-            ..
-        } => {
+        Some(written) => {
             text(b" ");
-            number(frame_bytes);
+            number(written.frame_bytes);
             text(b"+");
-            number(padding_bytes);
+            number(written.padding_bytes);
         }
-        RecordWrite::NoRoom => text(b" 13"),
+        None => text(b" 13"),
     }
 }
 
@@ -88,8 +82,8 @@ fn show(answer: RecordAnswer, scratch: &[u8], data: &[u8]) {
     }
 }
 
-// All answers of the fresh reader, printed where `shown` says so.
-pub fn read_into(log: &[u8], scratch: &mut [u8], data: &[u8], shown: bool) -> AllRead {
+// All answers of the fresh reader, printed where there are the data that were written.
+pub fn read_into(log: &[u8], scratch: &mut [u8], written: Option<&[u8]>) -> AllRead {
     let mut reader = Reader::new();
     if log.len() < Reader::BLOCK_NUM_BYTES {
         return AllRead { count: 0, reader };
@@ -98,7 +92,7 @@ pub fn read_into(log: &[u8], scratch: &mut [u8], data: &[u8], shown: bool) -> Al
         let read = recordlog::next_record(&[], log, scratch, reader);
         reader = read.reader;
         let answer = read.answer;
-        if shown {
+        if let Some(data) = written {
             show(answer, scratch, data);
         }
         if matches!(answer, RecordAnswer::EndOfLog | RecordAnswer::TooLong) {

@@ -4,10 +4,12 @@
 
 ghost use Rattle.std.specs.Prelude.{◌≡◌, ◌≤◌, length};
 
+use planes::PlanesError;
 use std::array;
 
 const STDOUT: i32 = 1;
 
+// Kept: no plainer: with `print!` each function here takes the runtime and answers a result, and bytes in hex have to be a type with its own `Display`.
 fn print_bytes(s: &[u8]) {
     for byte in s {
         io::print_hex(STDOUT, u64::from(*byte), 2);
@@ -26,19 +28,24 @@ fn print_call(name: &[u8], width: u64, payload: usize, target: usize) {
     io::write_all(STDOUT, b": ");
 }
 
-// Ends a line: the answer's number; the target's bytes where nothing is refused, else whether they are as before.
-fn print_answer(number: u64, before: &[u8], target: &[u8]) {
-    io::print_decimal(STDOUT, number);
-    if number == 0 {
-        io::write_all(STDOUT, b" [");
-        print_bytes(target);
-        io::write_all(STDOUT, b"]");
-    } else if before == target {
-        io::write_all(STDOUT, b" as before");
-    } else {
-        io::write_all(STDOUT, b" changed");
+// Ends a line: the answer's number, 0 where nothing is refused; then the target's bytes, or whether they are as before.
+fn print_answer(answer: Result<(), PlanesError>, before: &[u8], target: &[u8]) {
+    match answer {
+        Ok(()) => {
+            io::write_all(STDOUT, b"0 [");
+            print_bytes(target);
+            io::write_all(STDOUT, b"]\n");
+        }
+        Err(error) => {
+            let kept: &[u8] = if before == target {
+                b" as before\n"
+            } else {
+                b" changed\n"
+            };
+            io::print_decimal(STDOUT, error.number());
+            io::write_all(STDOUT, kept);
+        }
     }
-    io::write_all(STDOUT, b"\n");
 }
 
 // Both ways, with a payload and a target of these lengths.
@@ -50,11 +57,11 @@ fn run(bytes: &[u8], width: u64, payload: usize, target: usize)
     let mut to = before;
     print_call(b"to_planes", width, payload.len(), target);
     let answer = planes::to_planes(payload, width, &mut to[..target]);
-    print_answer(planes::number(answer), &before[..target], &to[..target]);
+    print_answer(answer, &before[..target], &to[..target]);
     let mut from = before;
     print_call(b"from_planes", width, payload.len(), target);
     let answer = planes::from_planes(payload, width, &mut from[..target]);
-    print_answer(planes::number(answer), &before[..target], &from[..target]);
+    print_answer(answer, &before[..target], &from[..target]);
 }
 
 // A target as long as the payload, one longer and one shorter.

@@ -4,25 +4,32 @@
 
 use mem_entries::blank;
 use multi_record_log::entries::range;
-use multi_record_log::{Lower, QuestionAnswer, RecordEntry, Upper};
+use multi_record_log::{FoundRecord, HeldMemory, QuestionAnswer, RecordEntry, Refusal};
+use std::ops::Bound;
 use std::{fmt, io};
 
 // An answer, as it is printed.
 #[derive(Clone, Copy)]
-struct Told(QuestionAnswer);
+struct Told(Result<QuestionAnswer, Refusal>);
 
 impl fmt::Display for Told {
     fn fmt<W: fmt::Write>(&self, f: &mut fmt::Formatter<W>) -> fmt::Result {
         match self.0 {
-            QuestionAnswer::Positions { .. } => write!(f, "positions"),
-            QuestionAnswer::Record {
-                position,
-                start,
-                length,
-            } => write!(f, "record {position} at {start} of {length}"),
-            QuestionAnswer::Largest { .. } => write!(f, "largest"),
-            QuestionAnswer::Nothing => write!(f, "none"),
-            QuestionAnswer::Refused(number) => write!(f, "refused {number}"),
+            Ok(QuestionAnswer::Positions { .. }) => write!(f, "positions"),
+            Ok(
+                QuestionAnswer::Record(
+                    Some(
+                        FoundRecord {
+                            position,
+                            start,
+                            length,
+                        },
+                    ),
+                ),
+            ) => write!(f, "record {position} at {start} of {length}"),
+            Ok(QuestionAnswer::Record(None)) => write!(f, "none"),
+            Ok(QuestionAnswer::Largest(_)) => write!(f, "largest"),
+            Err(refusal) => write!(f, "refused {}", refusal.number()),
         }
     }
 }
@@ -37,40 +44,42 @@ fn entry(position: u64, length: usize) -> RecordEntry {
 }
 
 // The memory is arranged as docs/LAYOUT.md says, and the range asked for: all of it, and the answer, are locals that are lent.
-fn ask(rt: &impl Print, what: &str, name: &[u8], lower: Lower, upper: Upper) -> io::Result<()> {
+fn ask(
+    rt: &impl Print,
+    what: &str,
+    name: &[u8],
+    lower: Bound<u64>,
+    upper: Bound<u64>,
+) -> io::Result<()> {
     let table: [u64; 7] = [1, 1, 3, 11, 1, 0, 6];
     let records = [entry(0, 5), entry(1, 0), entry(5, 6), blank()];
     let largest: [u64; 4] = [0, 0, 2, 0];
-    let mut answer = QuestionAnswer::Nothing;
-    let part = range(
-        b"a",
-        b"helloagain!",
-        &records,
-        &largest,
-        &table,
-        name,
-        lower,
-        upper,
-        &mut answer,
-    );
+    let memory = HeldMemory {
+        names: b"a",
+        payloads: b"helloagain!",
+        entries: &records,
+        largest: &largest,
+        table: &table,
+    };
+    let found = range(memory, name, lower, upper);
     print!(rt; "{what}: |")?;
-    rt.write_all(part)?;
-    println!(rt; "| {}", Told(answer))
+    rt.write_all(found.payload)?;
+    println!(rt; "| {}", Told(found.answer))
 }
 
 fn main(rt: HostRuntime) -> io::Result<()> {
-    ask(&rt, "first", b"a", Lower::Unbounded, Upper::Unbounded)?;
-    ask(&rt, "after 0", b"a", Lower::After(0), Upper::Unbounded)?;
-    ask(&rt, "from 2", b"a", Lower::From(2), Upper::Unbounded)?;
-    ask(&rt, "from 5", b"a", Lower::From(5), Upper::Unbounded)?;
+    ask(&rt, "first", b"a", Bound::Unbounded, Bound::Unbounded)?;
+    ask(&rt, "after 0", b"a", Bound::Excluded(0), Bound::Unbounded)?;
+    ask(&rt, "from 2", b"a", Bound::Included(2), Bound::Unbounded)?;
+    ask(&rt, "from 5", b"a", Bound::Included(5), Bound::Unbounded)?;
     ask(
         &rt,
         "after 0 through 0",
         b"a",
-        Lower::After(0),
-        Upper::Through(0),
+        Bound::Excluded(0),
+        Bound::Included(0),
     )?;
-    ask(&rt, "from 6", b"a", Lower::From(6), Upper::Unbounded)?;
-    ask(&rt, "before 0", b"a", Lower::Unbounded, Upper::Before(0))?;
-    ask(&rt, "no queue", b"b", Lower::Unbounded, Upper::Unbounded)
+    ask(&rt, "from 6", b"a", Bound::Included(6), Bound::Unbounded)?;
+    ask(&rt, "before 0", b"a", Bound::Unbounded, Bound::Excluded(0))?;
+    ask(&rt, "no queue", b"b", Bound::Unbounded, Bound::Unbounded)
 }

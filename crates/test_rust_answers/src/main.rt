@@ -1,12 +1,13 @@
-// A stored sample of the Rust's answers: standard input holds lists of commands, as the crate `test_commands` reads them, and the stored output is what the Rust
-// answered. `host/run sample` writes both files (host/src/bin/sample.rs).
+// A stored sample of the Rust's answers: standard input holds lists of commands, as the crate `test_commands` reads them, and the stored output is what
+// the Rust answered. `host/run sample` writes both files (host/src/bin/sample.rs).
 #![tactic(auto)]
 
-use std::io::{self, Read};
+use std::io::Read;
 
-fn main(rt: HostRuntime) -> io::Result<()> {
+// The first 262,144 bytes of the input, as far as they can be read.
+// Kept: no plainer: `test_calls` and `test_rust_answers` are one program over two inputs, and a crate has one stdin and one stdout.
+fn main(rt: HostRuntime) {
     let mut list = Vec::new(rt.alloc());
-    rt.stdin().read_to_end(&mut list)?;
+    let _ = rt.stdin().take(262144).read_to_end(&mut list);
     test_commands::run(list.as_slice());
-    Ok(())
 }

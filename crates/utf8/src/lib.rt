@@ -1,7 +1,7 @@
 // UTF-8 (RFC 3629): the test of a name, as the Rust's `str::from_utf8` tests it.
 #![tactic(auto)]
 
-ghost use Rattle.std.specs.Prelude.{◌≡◌};
+ghost use Rattle.std.specs.Prelude.{◌≡◌, Some};
 ghost use Rattle.utf8.specs.Utf8.{utf8, grammar, begun, after};
 ghost use Rattle.utf8.specs.Wanted.{wanted, follow};
 
@@ -14,21 +14,15 @@ struct Wanted {
     left: u8,
 }
 
-// What is wanted after one byte more, unless no UTF-8 goes on so.
-#[derive(Clone, Copy)]
-enum Next {
-    Wants(Wanted),
-    Refused,
-}
-
-fn wants(low: u8, high: u8, left: u8) -> Next
-    ensures { result ≡ Next.Wants (record { low = low; high = high; left = left }) }
+// What is wanted after one byte more. None: no UTF-8 goes on so.
+fn wants(low: u8, high: u8, left: u8) -> Option<Wanted>
+    ensures { result ≡ Some (record { low = low; high = high; left = left }) }
 {
-    Next::Wants(Wanted { low, high, left })
+    Some(Wanted { low, high, left })
 }
 
 // What the first byte of a character wants after it: the rules of the RFC's grammar.
-fn begin(b: u8) -> Next
+fn begin(b: u8) -> Option<Wanted>
     ensures { follow result ≡ begun grammar b }
 {
     match b {
@@ -40,22 +34,19 @@ fn begin(b: u8) -> Next
         0xf0 => wants(0x90, 0xbf, 3),
         0xf1..=0xf3 => wants(0x80, 0xbf, 3),
         0xf4 => wants(0x80, 0x8f, 3),
-        _ => Next::Refused,
+        _ => None,
     }
 }
 
 // One byte more: the first of a character, or the next one of it.
-fn step(w: Wanted, b: u8) -> Next
+fn step(w: Wanted, b: u8) -> Option<Wanted>
     ensures { follow result ≡ after (wanted w) b }
 {
     if w.left == 0 {
         return begin(b);
     }
-    if b < w.low {
-        return Next::Refused;
-    }
-    if w.high < b {
-        return Next::Refused;
+    if b < w.low || w.high < b {
+        return None;
     }
     wants(0x80, 0xbf, w.left - 1)
 }
@@ -69,13 +60,11 @@ pub fn is_utf8(s: &[u8]) -> bool
         high: 0xbf,
         left: 0,
     };
-    let mut i = 0;
-    while i < s.len() {
-        let Next::Wants(next) = step(w, s[i]) else {
+    for b in s {
+        let Some(next) = step(w, *b) else {
             return false;
         };
         w = next;
-        i += 1;
     }
     w.left == 0
 }

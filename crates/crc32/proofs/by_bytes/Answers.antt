@@ -6,15 +6,15 @@ use Rattle.crc32.specs.Crc.{run, bits}
 use Rattle.crc32.proofs.Parts.{run-next, run_none}
 use Rattle.crc32.proofs.by_bytes.Goals as goal
 
-pub loop-i-init : goal.loop-i-init
-loop-i-init c = (omega arith, refl)
+pub loop-b-init : goal.loop-b-init
+loop-b-init c = (omega arith, refl)
 
-pub loop-i-preserved : goal.loop-i-preserved
-loop-i-preserved c = (
+pub loop-b-preserved : goal.loop-b-preserved
+loop-b-preserved c = (
   omega arith,
-  ap (λ (r : ℕ). run r (bits (drop (c.loop-i.i + 1) c.args.«data».now))) c.next-c.ensures
-      ∙ run-next c.loop-i.c c.loop-i.i c.args.«data».now (omega arith) ∙ c.loop-i.invariant.1,
+  ap (λ (r : ℕ). run r (bits (drop (c.loop-b.b-index + 1) c.args.«data».now))) c.next-c.ensures
+      ∙ run-next c.loop-b.c c.loop-b.b-index c.args.«data».now (omega arith) ∙ c.loop-b.invariant.1,
 )
 
 pub returns : goal.returns
-returns c = sym (run_none c.loop-i.c c.loop-i.i _ (omega arith)) ∙ c.loop-i.invariant.1
+returns c = sym (run_none c.loop-b.c c.loop-b.b-index _ (omega arith)) ∙ c.loop-b.invariant.1

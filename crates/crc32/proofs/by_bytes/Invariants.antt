@@ -1,13 +1,10 @@
 -- `crc32::by_bytes` meets its contract. The loop's invariant: the bytes that are left take the register to where all of them take the first.
 -- Assumes nothing.
 use mathlib.Core.Path.{◌≡◌}
-use Prim.Native.Nat.{◌-◌, ◌≤◌}
+use Prim.Native.Nat.{◌≤◌}
 use lib.ListN.{length, drop}
 use Rattle.crc32.specs.Crc.{run, bits}
 use Rattle.crc32.proofs.by_bytes.Given as goal
 
-abbrev pub invariant-loop-i : goal.invariant-loop-i
-invariant-loop-i l = (l.i ≤ length l.data) × (run l.c (bits (drop l.i l.data)) ≡ run l.crc (bits l.data))
-
-abbrev pub decreases-loop-i : goal.decreases-loop-i
-decreases-loop-i l = length l.data - l.i
+abbrev pub invariant-loop-b : goal.invariant-loop-b
+invariant-loop-b l = (l.b-index ≤ length l.data) × (run l.c (bits (drop l.b-index l.data)) ≡ run l.crc (bits l.data))

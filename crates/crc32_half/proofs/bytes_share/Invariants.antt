@@ -11,7 +11,4 @@ use Rattle.crc32.specs.Crc.{run, bits}
 use Rattle.crc32_half.proofs.bytes_share.Given as goal
 
 abbrev pub invariant-loop-i : goal.invariant-loop-i
-invariant-loop-i l = (l.i ≤ length l.s) × (l.c ≡ l.crc / 2 ^ (8 * l.i)) × (bit_xor l.r (run l.c (bits (drop l.i l.s ++ zeros l.k))) ≡ run l.crc (bits (l.s ++ zeros l.k)))
-
-abbrev pub decreases-loop-i : goal.decreases-loop-i
-decreases-loop-i l = length l.s - l.i
+invariant-loop-i g l = (l.i ≤ length l.s) × (l.c ≡ l.crc / 2 ^ (8 * l.i)) × (bit_xor l.r (run l.c (bits (drop l.i l.s ++ zeros l.k))) ≡ run l.crc (bits (l.s ++ zeros l.k)))

@@ -1,17 +1,9 @@
--- `fields::put_u16` meets its contract: two numbers of width 1, one after the other.
+-- `fields::put_u16` meets its contract.
 -- Assumes nothing.
-use Prim.Native.Nat.{◌+◌, ◌%◌, ◌/◌}
-use native.Mathlib.Omega.{arith}
-use lib.ListN.{set, length-set}
-use Rattle.fields.proofs.Le.{put_parts, put_byte}
+use mathlib.Core.Path.{◌∙◌}
+use Rattle.slices.proofs.Put.{mid_put}
+use Rattle.fields.proofs.Le.{bytes_2, length-le_bytes}
 use Rattle.fields.proofs.put_u16.Goals as goal
 
-pub bounds-s-at-2 : goal.bounds-s-at-2
-bounds-s-at-2 c = simp length-set (omega arith)
-
 pub returns : goal.returns
-returns c =
-    let a = c.args in
-    let l = set a.s.now a.at (a.x % 256) in
-    put_parts a.s.now l _ a.at 1 1 a.x (omega arith) (put_byte a.s.now a.at (a.x % 256) (omega arith) (omega arith))
-    (put_byte l (a.at + 1) (a.x / 256) (omega (arith, length-set a.s.now a.at (a.x % 256))) (omega arith))
+returns c = mid_put _ _ _ _ _ (c.copy_from_slice.ensures.after ∙ c.to_le_bytes.ensures ∙ bytes_2 _) (length-le_bytes 2 c.args.x)

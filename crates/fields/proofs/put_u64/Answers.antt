@@ -1,11 +1,9 @@
--- `fields::put_u64` meets its contract: two numbers of width 4, one after the other.
+-- `fields::put_u64` meets its contract.
 -- Assumes nothing.
-use native.Mathlib.Omega.{arith}
-use Rattle.fields.proofs.Le.{put_parts}
+use mathlib.Core.Path.{◌∙◌}
+use Rattle.slices.proofs.Put.{mid_put}
+use Rattle.fields.proofs.Le.{bytes_8, length-le_bytes}
 use Rattle.fields.proofs.put_u64.Goals as goal
 
 pub returns : goal.returns
-returns c =
-    let a = c.args in
-    put_parts a.s.now c.put_u32.new.s c.put_u32-2.new.s a.at 4 4 a.x (omega arith) c.put_u32.ensures
-    c.put_u32-2.ensures
+returns c = mid_put _ _ _ _ _ (c.copy_from_slice.ensures.after ∙ c.to_le_bytes.ensures ∙ bytes_8 _) (length-le_bytes 8 c.args.x)

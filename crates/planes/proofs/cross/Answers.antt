@@ -1,4 +1,3 @@
-use Prim.Native.Nat.{◌-◌}
 use native.Mathlib.Nat.{mul_comm}
 use native.Mathlib.Omega.{arith}
 use Rattle.planes.proofs.Crossing.{start, room, turn, end}
@@ -26,9 +25,6 @@ loop-j-preserved c =
     (omega (arith, c.loop-j-test.true))
     c.loop-j.invariant
     c.gather.ensures
-
-pub shape_of-dst : goal.shape_of-dst
-shape_of-dst c = c.loop-j.invariant.long
 
 pub returns : goal.returns
 returns c = end _ _ _ _ _ _ c.requires.1 (omega (arith, c.loop-j-test.false)) c.loop-j.invariant

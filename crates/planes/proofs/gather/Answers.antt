@@ -1,4 +1,3 @@
-use Prim.Native.Nat.{◌-◌}
 use mathlib.Core.Path.{sym}
 use native.Mathlib.Omega.{arith}
 use lib.ListN.{length}
@@ -28,10 +27,7 @@ pub loop-i-preserved : goal.loop-i-preserved
 loop-i-preserved c =
     let a = c.args in
     let l = length-every a.step a.n a.from a.src.now in
-    turn _ _ _ _ _ _ (omega arith) (omega arith) (sym (every_at _ _ _ _ _ (omega arith))) c.loop-i.invariant
-
-pub shape_of-dst : goal.shape_of-dst
-shape_of-dst c = c.loop-i.invariant.long
+    turn _ _ _ _ _ _ _ (omega arith) (omega arith) (sym (every_at _ _ _ _ _ (omega arith))) c.loop-i.invariant
 
 pub returns : goal.returns
 returns c =

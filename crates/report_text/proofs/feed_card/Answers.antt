@@ -7,4 +7,4 @@ pub returns-then-card-gt-MAX_CARD_LEN : goal.returns-then-card-gt-MAX_CARD_LEN
 returns-then-card-gt-MAX_CARD_LEN c = card_long _ _ c.if-card-gt-MAX_CARD_LEN.true
 
 pub returns : goal.returns
-returns c = card_fed _ _ _ _ _ c.if-card-gt-MAX_CARD_LEN.false c.feed.ensures.0 c.number.ensures c.feed.ensures.1
+returns c = card_fed _ _ _ _ c.if-card-gt-MAX_CARD_LEN.false c.feed.ensures.0 c.feed.ensures.1

@@ -5,7 +5,7 @@ use Rattle.report_text.proofs.Pieces.{refused_text, whole_text}
 use Rattle.report_text.proofs.list_report.Goals as goal
 
 pub returns-then-not-report_arranged : goal.returns-then-not-report_arranged
-returns-then-not-report_arranged c = refused_text c.args.out.now _ _ _ _ (sym c.report_arranged.ensures ∙ c.if-not-report_arranged.true) c.clear.ensures c.refused.ensures
+returns-then-not-report_arranged c = refused_text c.args.out.now _ _ _ _ (sym c.report_arranged.ensures ∙ c.if-not-report_arranged.true) c.clear.ensures (rw c.number.ensures at c.refused.ensures)
 
 pub list_arranged-requires : goal.list_arranged-requires
 list_arranged-requires c = sym c.report_arranged.ensures ∙ c.if-not-report_arranged.false

@@ -4,8 +4,8 @@ use Prim.Native.Nat.{◌+◌, ◌-◌}
 use lib.ListN.{length}
 use Rattle.test_record.proofs.print_items.Given as goal
 
-abbrev pub invariant-loop-position : goal.invariant-loop-position
-invariant-loop-position l = Unit {0}
+abbrev pub invariant-loop-item : goal.invariant-loop-item
+invariant-loop-item g l = Unit {0}
 
-abbrev pub decreases-loop-position : goal.decreases-loop-position
-decreases-loop-position l = length l.s + 1 - l.left.start
+abbrev pub decreases-loop-item : goal.decreases-loop-item
+decreases-loop-item g l = length l.s + 1 - l.left.start

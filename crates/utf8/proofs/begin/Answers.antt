@@ -10,7 +10,6 @@ use lib.Dec.{ltb, lit<}
 use Rattle.utf8.specs.Utf8.{tail, grammar, following, begun}
 use Rattle.utf8.specs.Wanted.{ranges, follow}
 use Rattle.utf8.proofs.Rules.{by_rule, never_first, clear}
-use borrow.Author.Rules.{rules}
 use Rattle.utf8.proofs.begin.Goals as goal
 
 -- %xE1-EC and %xEE-EF, the two rules around ED

@@ -1,19 +1,15 @@
 use mathlib.Core.Path.{◌≡◌, refl, sym, ap, ◌∙◌}
 use mathlib.Core.Bool.{false}
-use mathlib.Core.List.{List, [], ◌∷◌}
-use Prim.Native.Nat.{ℕ, ◌+◌, ◌-◌, ◌≤◌, ◌<◌}
+use mathlib.Core.List.{List, []}
+use Prim.Native.Nat.{ℕ, ◌+◌, ◌≤◌, ◌<◌}
 use native.Mathlib.Omega.{arith}
 use lib.ListN.{length, drop, get_or}
 use lib.Dec.{eqb}
-use types.Run.{OneOf, miss}
-use denote.Enum.Declared.{tag_of}
 use Rattle.utf8.specs.declared.Wanted.{Wanted}
-use Rattle.utf8.specs.declared.Next.{Next}
-use Rattle.utf8.specs.declared.Next.TheVariants.{Wants, Refused}
+use Rattle.std.specs.Prelude.{Option, Some, None}
 use Rattle.utf8.specs.Utf8.{following, after, after_all, whole, utf8}
 use Rattle.utf8.specs.Wanted.{ranges, wanted, follow}
 use Rattle.utf8.proofs.Follows.{refused, after_next, after_end, whole-wanted}
-use Rattle.utf8.specs.contracts.Next.{the_type}
 use Rattle.utf8.proofs.is_utf8.Invariants.{Turn}
 use Rattle.utf8.proofs.is_utf8.Goals as goal
 
@@ -21,21 +17,16 @@ start : (s : List ℕ) (low high : ℕ) → Turn s (record { low = low; high = h
 unfolding ranges
 start s low high = record { inside = omega arith; rest = refl }
 
--- the pattern of the `let .. else` failed
-not_wanted : (n : Next) → OneOf (1 ∷ []) (tag_of the_type n) → n ≡ Refused
-not_wanted (Wants w) o = absurd (miss (1 ∷ []) 0 tt o)
-not_wanted Refused o = refl
-
 module _ {s : List ℕ} {w : Wanted} {i : ℕ} (t : Turn s w i) where
-  module _ (n : Next) (l : i < length s) (e : follow n ≡ after (wanted w) (get_or s i 0)) where
+  module _ (n : Option Wanted) (l : i < length s) (e : follow n ≡ after (wanted w) (get_or s i 0)) where
     next : after_all (follow n) (drop (i + 1) s) ≡ after_all (following []) s
     next = rw e (sym (after_next (wanted w) i s l)) ∙ t.rest
 
-    turn : {v : Wanted} → n ≡ Wants v → Turn s v (i + 1)
+    turn : {v : Wanted} → n ≡ Some v → Turn s v (i + 1)
     unfolding follow
     turn q = record { inside = omega arith; rest = rw q at next }
 
-    stop : n ≡ Refused → false ≡ utf8 s
+    stop : n ≡ None → false ≡ utf8 s
     unfolding follow utf8 whole
     stop q = ap whole (sym (refused (drop (i + 1) s)) ∙ (rw q at next))
 
@@ -43,16 +34,14 @@ module _ {s : List ℕ} {w : Wanted} {i : ℕ} (t : Turn s w i) where
   unfolding utf8
   end h = sym (whole-wanted w) ∙ ap whole (sym (after_end (wanted w) i s h) ∙ t.rest)
 
-pub loop-i-init : goal.loop-i-init
-loop-i-init c = start _ _ _
+pub loop-b-init : goal.loop-b-init
+loop-b-init c = start _ _ _
 
 pub returns-in_default : goal.returns-in_default
-returns-in_default c =
-    stop c.loop-i.invariant c.step.result (omega arith) c.step.ensures (not_wanted _ c.in_default.in_default-own.keys2)
+returns-in_default c = stop c.loop-b.invariant c.step.result (omega arith) c.step.ensures c.in_default.is
 
-pub loop-i-preserved : goal.loop-i-preserved
-loop-i-preserved c =
-    turn c.loop-i.invariant c.step.result (omega arith) c.step.ensures c.in-Wants.is
+pub loop-b-preserved : goal.loop-b-preserved
+loop-b-preserved c = turn c.loop-b.invariant c.step.result (omega arith) c.step.ensures c.in-Some.is
 
 pub returns : goal.returns
-returns c = end c.loop-i.invariant c.loop-i-test.false
+returns c = end c.loop-b.invariant (omega arith)

@@ -2,7 +2,7 @@
 -- Assumes nothing.
 use mathlib.Core.Path.{◌≡◌}
 use mathlib.Core.List.{List, []}
-use Prim.Native.Nat.{ℕ, ◌-◌, ◌≤◌}
+use Prim.Native.Nat.{ℕ, ◌≤◌}
 use lib.ListN.{length, drop}
 use Rattle.utf8.specs.declared.Wanted.{Wanted}
 use Rattle.utf8.specs.Utf8.{following, after_all}
@@ -13,8 +13,5 @@ pub record Turn (s : List ℕ) (w : Wanted) (i : ℕ) : Type 0 where
   pub inside : i ≤ length s
   pub rest : after_all (wanted w) (drop i s) ≡ after_all (following []) s
 
-abbrev pub invariant-loop-i : goal.invariant-loop-i
-invariant-loop-i l = Turn l.s l.w l.i
-
-abbrev pub decreases-loop-i : goal.decreases-loop-i
-decreases-loop-i l = length l.s - l.i
+abbrev pub invariant-loop-b : goal.invariant-loop-b
+invariant-loop-b l = Turn l.s l.w l.b-index

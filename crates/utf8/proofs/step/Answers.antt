@@ -5,17 +5,18 @@ use native.Mathlib.Omega.{arith}
 use Rattle.utf8.specs.Wanted.{follow}
 use Rattle.utf8.proofs.Follows.{after-whole, after_under, after_over, after_in}
 use Rattle.utf8.proofs.step.Goals as goal
+use Rattle.utf8.proofs.step.Goals.{then-b-w-via-then-b-w, then-b-w-via-else-b-w+then-w-b}
 
 pub returns-then-w-eq0 : goal.returns-then-w-eq0
 returns-then-w-eq0 c = c.begin.ensures ∙ sym (after-whole _ _ c.if-w-eq0.true)
 
 pub returns-then-b-w : goal.returns-then-b-w
 unfolding follow
-returns-then-b-w c = sym (after_under _ _ (omega arith) (omega arith))
-
-pub returns-then-w-b : goal.returns-then-w-b
-unfolding follow
-returns-then-w-b c = sym (after_over _ _ (omega arith) (omega arith))
+returns-then-b-w c =
+    elim c.then-b-w.branch [
+      | then-b-w-via-then-b-w w ↦ sym (after_under _ _ (omega arith) (omega arith))
+      | then-b-w-via-else-b-w+then-w-b w ↦ sym (after_over _ _ (omega arith) (omega arith))
+    ]
 
 pub returns : goal.returns
 unfolding follow

@@ -3,8 +3,8 @@
 use Rattle.drive_commands.proofs.Pieces.{done_on, refused_on}
 use Rattle.drive_commands.proofs.line.put_line.Goals as goal
 
-pub returns-in-Done-clause-puts : goal.returns-in-Done-clause-puts
-returns-in-Done-clause-puts c = done_on _ _ _ _ _ _ c.in-Done.is c.put_ok.ensures.puts
+pub returns-in-Ok-clause-puts : goal.returns-in-Ok-clause-puts
+returns-in-Ok-clause-puts c = done_on _ _ _ c.in-Ok.is c.put_ok.ensures.puts
 
-pub returns-in-Refused-clause-puts : goal.returns-in-Refused-clause-puts
-returns-in-Refused-clause-puts c = refused_on _ _ _ c.in-Refused.is c.put_refused.ensures.puts
+pub returns-in-Err-clause-puts : goal.returns-in-Err-clause-puts
+returns-in-Err-clause-puts c = refused_on _ _ _ _ c.in-Err.is c.number.ensures c.put_refused.ensures.puts

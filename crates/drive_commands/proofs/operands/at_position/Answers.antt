@@ -1,10 +1,8 @@
 -- `drive_commands::operands::at_position` meets its contract.
 -- Assumes nothing.
-use Rattle.drive_commands.proofs.Widths.{none_named, one_named}
+use Rattle.std.proofs.Common.{rules}
+use Rattle.drive_commands.proofs.Widths.{named}
 use Rattle.drive_commands.proofs.operands.at_position.Goals as goal
 
-pub returns-then-position : goal.returns-then-position
-returns-then-position c = none_named _ _ c.number_in-position.ensures c.if-position.true
-
 pub returns : goal.returns
-returns c = one_named _ _ c.number_in-position.ensures c.if-position.false
+returns c = named c.number_in-position.result _ c.then_some.result (search rules) c.number_in-position.ensures

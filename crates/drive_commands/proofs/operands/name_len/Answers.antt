@@ -1,16 +1,22 @@
-use Rattle.std.proofs.Common.{sym, ◌∙◌, arith}
-use Rattle.drive_commands.specs.Commands.{name_in}
-use Rattle.drive_commands.proofs.Names.{cut_one, cut_none, cut_all}
+-- `drive_commands::operands::name_len` meets its contract.
+-- Assumes nothing.
+use Rattle.std.proofs.Common.{refl, arith}
+use Rattle.drive_commands.proofs.Names.{cut_start, cut_on, cut_all, cut_none}
 use Rattle.drive_commands.proofs.operands.name_len.Goals as goal
 
-pub loop-n-preserved : goal.loop-n-preserved
-loop-n-preserved c = (omega arith, cut_one c.args.operands.now c.loop-n.n (omega arith) c.loop-n-test.true c.if-operands-n-eq0.true ∙ c.loop-n.invariant.1)
+pub loop-last-init : goal.loop-last-init
+loop-last-init c = cut_start c.args.operands.now _ c.requires refl
 
-pub returns-else-operands-n-eq0 : goal.returns-else-operands-n-eq0
-unfolding name_in
-returns-else-operands-n-eq0 c =
-    (c.loop-n.invariant.0, sym (cut_all c.args.operands.now c.loop-n.n (omega arith) c.loop-n-test.true c.if-operands-n-eq0.false) ∙ c.loop-n.invariant.1)
+pub returns-then-last-ne0 : goal.returns-then-last-ne0
+returns-then-last-ne0 c =
+    cut_all c.args.operands.now c.loop-last.name.now c.in-Some.rest.now c.in-Some.last.now c.in-Some.ensures.cases.0 c.if-last-ne0.true c.loop-last.invariant
 
-pub returns-after-loop-n : goal.returns-after-loop-n
-unfolding name_in
-returns-after-loop-n c = (c.loop-n.invariant.0, sym (cut_none c.args.operands.now c.loop-n.n (omega arith)) ∙ c.loop-n.invariant.1)
+pub loop-last-smaller : goal.loop-last-smaller
+loop-last-smaller c = omega (arith, c.in-Some.ensures.cases.1)
+
+pub loop-last-preserved : goal.loop-last-preserved
+loop-last-preserved c =
+    cut_on c.args.operands.now c.loop-last.name.now c.in-Some.rest.now c.in-Some.last.now c.in-Some.ensures.cases.0 c.in-Some.ensures.cases.1 c.if-last-ne0.false c.loop-last.invariant
+
+pub returns : goal.returns
+returns c = cut_none c.args.operands.now c.loop-last.name.now c.in_default.ensures.cases c.loop-last.invariant

@@ -5,7 +5,7 @@ use Rattle.drive_text.proofs.Parts.{printed, refused_so, zeroed}
 use Rattle.drive_text.proofs.day.drive.Goals as goal
 
 pub returns-then-input-gt-MAX_INPUT_LEN : goal.returns-then-input-gt-MAX_INPUT_LEN
-returns-then-input-gt-MAX_INPUT_LEN c = refused_so c.args.input.now c.args.out.now c.args.log.now c.if-input-gt-MAX_INPUT_LEN.true c.clear.ensures c.refused.ensures
+returns-then-input-gt-MAX_INPUT_LEN c = refused_so c.args.input.now c.args.out.now c.args.log.now c.if-input-gt-MAX_INPUT_LEN.true c.clear.ensures (rw c.number.ensures at c.refused.ensures)
 
 pub drive_zeroed-at-requires : goal.drive_zeroed-at-requires
 drive_zeroed-at-requires c = zeroed c.args.log.now _ c.told-log c.clear-2.ensures

@@ -1,7 +1,8 @@
 -- `drive_text::run::run` meets its contract.
 -- Assumes nothing.
 use Rattle.std.proofs.Common.{◌-◌, length}
-use Rattle.abi_call.specs.OnBytes.{lent_bytes}
+use Rattle.lent.specs.Memory.{SameLog, SameMemory}
+use Rattle.abi_call.specs.OnBytes.{bytes_lent}
 use Rattle.listing.specs.Internal.{SameOut}
 use Rattle.drive_text.proofs.Turning.{Going}
 use Rattle.drive_text.proofs.run.run.Given as goal
@@ -10,10 +11,10 @@ abbrev pub invariant-loop-command : goal.invariant-loop-command
 invariant-loop-command l =
     record {
       same : SameOut l.initial.text l.text;
+      same_log : SameLog l.initial.writer l.writer;
+      same_memory : SameMemory l.initial.memory l.memory;
       going :
-          Going l.input
-          (lent_bytes l.initial.log l.initial.write_position l.initial.scratch l.initial.names l.initial.payloads l.initial.entries l.initial.largest l.initial.table)
-          (lent_bytes l.log l.write_position l.scratch l.names l.payloads l.entries l.largest l.table) l.initial.text.out.now l.initial.text.at l.text.out.now l.p l.text.at;
+          Going l.input (bytes_lent l.initial.writer l.initial.memory) (bytes_lent l.writer l.memory) l.initial.text.out.now l.initial.text.at l.text.out.now l.p l.text.at;
     }
 
 abbrev pub decreases-loop-command : goal.decreases-loop-command

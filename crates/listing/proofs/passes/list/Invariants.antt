@@ -10,6 +10,6 @@ abbrev pub invariant-loop-k : goal.invariant-loop-k
 invariant-loop-k l =
     record {
       same : SameOut l.initial.text l.text;
-      passed : l.passed ≡ names_to l.table l.k;
-      puts : Puts l.initial.text (queues_to l.names l.payloads l.entries l.table l.sums.records l.k) l.text;
+      passed : l.passed ≡ names_to l.memory.table.now l.k;
+      puts : Puts l.initial.text (queues_to l.memory.names.now l.memory.payloads.now l.memory.entries.now l.memory.table.now l.sums.records l.k) l.text;
     }

@@ -9,9 +9,9 @@ returns-then-input-lt-BLOCK_NUM_BYTES c =
     let a = c.args in
     elim c.then-input-lt-BLOCK_NUM_BYTES.branch [
       | then-input-lt-BLOCK_NUM_BYTES-via-then-input-lt-BLOCK_NUM_BYTES w ↦
-          refused_as _ _ a.out.now _ _ _ (too_short a.input.now w.if-input-lt-BLOCK_NUM_BYTES.true) c.clear.ensures c.refused.ensures
+          refused_as _ _ a.out.now _ _ _ (too_short a.input.now w.if-input-lt-BLOCK_NUM_BYTES.true) c.clear.ensures (rw c.number.ensures at c.refused.ensures)
       | then-input-lt-BLOCK_NUM_BYTES-via-else-input-lt-BLOCK_NUM_BYTES+then-input-gt-MAX_CARD_LEN w ↦
-          refused_as _ _ a.out.now _ _ _ (too_long_lem a.input.now w.if-input-gt-MAX_CARD_LEN.true) c.clear.ensures c.refused.ensures
+          refused_as _ _ a.out.now _ _ _ (too_long_lem a.input.now w.if-input-gt-MAX_CARD_LEN.true) c.clear.ensures (rw c.number.ensures at c.refused.ensures)
     ]
 
 pub list_sized-requires : goal.list_sized-requires

@@ -1,40 +1,38 @@
 -- `readout_text::replayed::list_replayed` meets its contract: what replay leaves is what the listing asks, and the marks and the listing behind them are the text.
 -- Assumes nothing.
-use Rattle.std.proofs.Common.{◌≡◌, List, Option, ℕ, sym, subst, rules}
-use lib.ListN.{replicate}
-use Rattle.queues.specs.declared.RecordEntry.{RecordEntry}
-use Rattle.queues.specs.Layout.{memory, blank}
-use Rattle.read_step.specs.declared.ReplayAnswer.{ReplayAnswer}
-use Rattle.contracts.specs.Promises.{ReplayKept}
-use Rattle.readout_text.specs.Kept.{lent_to, CardKept}
-use Rattle.readout_text.proofs.Between.{may, refused_kept, replayed_kept}
+use Rattle.std.proofs.Common.{◌≡◌, true, List, Option, ℕ, length, sym, subst, rules}
+use Rattle.queues.specs.Layout.{Memory, arranged, meaning}
+use Rattle.lent.specs.Memory.{memory_of}
+use Rattle.listing.specs.Claims.{LogFits}
+use Rattle.listing.specs.Internal.{ListsFrom}
+use Rattle.listing.specs.Listing.{listing}
+use Rattle.readout_text.specs.Kept.{CardKept}
+use Rattle.readout_text.proofs.Between.{may, refused_kept, replayed_kept, looked_at}
 use Rattle.readout_text.proofs.replayed.list_replayed.Goals as goal
 
-kept_blank : (input scratch ns ps ks t : List ℕ) (x : RecordEntry) (a : ReplayAnswer) (scratch' ns' ps' : List ℕ) (es' : List RecordEntry) (ks' t' : List ℕ) → x ≡ blank
-    → ReplayKept input scratch (memory ns ps (replicate 1024 x) t) ks a scratch' (memory ns' ps' es' t') ks'
-    → ReplayKept input scratch (lent_to ns ps t) ks a scratch' (memory ns' ps' es' t') ks'
-kept_blank input scratch ns ps ks t x a scratch' ns' ps' es' ks' t' is k =
-    subst (λ (y : RecordEntry). ReplayKept input scratch (memory ns ps (replicate 1024 y) t) ks a scratch' (memory ns' ps' es' t') ks') is k
-
 -- the buffer as it is left
-left_in : {input scratch ns ps ks t out : List ℕ} {r : Option ℕ} {scratch' ns' ps' ks' t' : List ℕ} (u v : List ℕ) → u ≡ v → CardKept input scratch ns ps ks t out r scratch' ns' ps' ks' t' v
-    → CardKept input scratch ns ps ks t out r scratch' ns' ps' ks' t' u
-left_in {input} {scratch} {ns} {ps} {ks} {t} {out} {r} {scratch'} {ns'} {ps'} {ks'} {t'} u v e k =
-    subst (λ (x : List ℕ). CardKept input scratch ns ps ks t out r scratch' ns' ps' ks' t' x) (sym e) k
+left_in : {input scratch : List ℕ} {m : Memory} {ks out : List ℕ} {r : Option ℕ} {scratch' : List ℕ} {m' : Memory} {ks' : List ℕ} (u v : List ℕ) → u ≡ v
+    → CardKept input scratch m ks out r scratch' m' ks' v → CardKept input scratch m ks out r scratch' m' ks' u
+left_in {input} {scratch} {m} {ks} {out} {r} {scratch'} {m'} {ks'} u v e k = subst (λ (x : List ℕ). CardKept input scratch m ks out r scratch' m' ks' x) (sym e) k
+
+-- the listing of the memory looked at
+lists_of : (s t : List ℕ) (p b q n : ℕ) {x y : Memory} (r : Option ℕ) → x ≡ y → ListsFrom s p (listing (meaning x) b q n) r t → ListsFrom s p (listing (meaning y) b q n) r t
+lists_of s t p b q n r e l = subst (λ (z : Memory). ListsFrom s p (listing (meaning z) b q n) r t) e l
 
 pub list-requires : goal.list-requires
 list-requires c =
-    let k = kept_blank _ _ _ _ _ _ _ _ _ _ _ _ _ _ c.blank-records.ensures c.replay.ensures in
-    may c.args.input.now c.args.scratch.now c.args.names.now c.args.payloads.now c.args.largest.now c.args.table.now c.args.out.now c.requires.0 c.requires.1 _ _ _ _ _ _ _ k _ _ _ c.in-Replayed.is
+    let h = c.held-held.ensures in
+    subst (λ (x : Memory). (arranged x ≡ true) × LogFits c.in-Ok.replayed.resumed (length c.args.input.now)) (sym (looked_at h.names h.payloads h.entries h.table))
+    (may c.args.input.now c.args.scratch.now (memory_of c.args.memory.now) c.args.memory.now.largest.now c.args.out.now c.requires.0 c.requires.1 _ _ _ _ c.replay.ensures.replayed _ c.in-Ok.is)
 
-pub returns-in-Refused : goal.returns-in-Refused
-returns-in-Refused c =
-    let k = kept_blank _ _ _ _ _ _ _ _ _ _ _ _ _ _ c.blank-records.ensures c.replay.ensures in
-    refused_kept c.args.input.now c.args.scratch.now c.args.names.now c.args.payloads.now c.args.largest.now c.args.table.now c.args.out.now c.requires.0 c.requires.1 _ _ _ _ _ _ _ k _ _ _ c.in-Refused.is c.refused.ensures
-
-pub returns-in-Replayed : goal.returns-in-Replayed
-returns-in-Replayed c =
-    let k = kept_blank _ _ _ _ _ _ _ _ _ _ _ _ _ _ c.blank-records.ensures c.replay.ensures in
+pub returns-in-Ok-clause-kept : goal.returns-in-Ok-clause-kept
+returns-in-Ok-clause-kept c =
+    let h = c.held-held.ensures in
     left_in _ _ (search rules)
-    (replayed_kept c.args.input.now c.args.scratch.now c.args.names.now c.args.payloads.now c.args.largest.now c.args.table.now c.args.out.now c.requires.0 c.requires.1 _ _ _ _ _ _ _ k _ _ _ _ _ _ c.in-Replayed.is c.put_shifts.ensures.puts c.put_shifts.ensures.scratch_left
-    c.list.ensures.lists)
+    (replayed_kept c.args.input.now c.args.scratch.now (memory_of c.args.memory.now) c.args.memory.now.largest.now c.args.out.now c.requires.0 c.requires.1 _ _ _ _ c.replay.ensures.replayed _ _ _ _ c.in-Ok.is
+    c.put_shifts.ensures.puts c.put_shifts.ensures.scratch_left (lists_of c.put_shifts.new.text.out.now _ c.put_shifts.new.text.at c.in-Ok.replayed.lost_bytes c.in-Ok.replayed.resumed (length c.args.input.now) c.list.result (looked_at h.names h.payloads h.entries h.table) c.list.ensures.lists))
+
+pub returns-in-Err-clause-kept : goal.returns-in-Err-clause-kept
+returns-in-Err-clause-kept c =
+    refused_kept c.args.input.now c.args.scratch.now (memory_of c.args.memory.now) c.args.memory.now.largest.now c.args.out.now c.requires.0 c.requires.1 _ _ _ _ c.replay.ensures.replayed _ _ _ _ c.in-Err.is
+    c.number.ensures c.refused.ensures

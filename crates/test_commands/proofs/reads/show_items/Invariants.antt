@@ -3,8 +3,8 @@
 use Rattle.std.proofs.Common.{◌+◌, ◌-◌, length}
 use Rattle.test_commands.proofs.reads.show_items.Given as goal
 
-abbrev pub invariant-loop-position : goal.invariant-loop-position
-invariant-loop-position l = Unit {0}
+abbrev pub invariant-loop-item : goal.invariant-loop-item
+invariant-loop-item l = Unit {0}
 
-abbrev pub decreases-loop-position : goal.decreases-loop-position
-decreases-loop-position l = length l.s + 1 - l.left.start
+abbrev pub decreases-loop-item : goal.decreases-loop-item
+decreases-loop-item l = length l.s + 1 - l.left.start
