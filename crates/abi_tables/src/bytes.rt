@@ -7,20 +7,15 @@ ghost use Rattle.abi_largest.specs.Numbers.{read_over};
 
 use lent::HeldMemory;
 
-// That bytes are below 256: the check knows it of a slice, and not of one that a struct lends.
-fn below_256_in(bytes: &[u8])
-    ensures { Bytes bytes.now }
-{}
-
-// The same of the tables of a memory. It does nothing.
+// That the tables of a memory are bytes.
 pub fn below_256(memory: HeldMemory<'_, u8, u8>)
     ensures entries { Bytes memory.entry.entries.now }
     ensures largest { Bytes memory.entry.largest.now }
     ensures table { Bytes memory.entry.table.now }
 {
-    below_256_in(memory.entries);
-    below_256_in(memory.largest);
-    below_256_in(memory.table);
+    slices::below_256(memory.entries);
+    slices::below_256(memory.largest);
+    slices::below_256(memory.table);
 }
 
 // The memory with its words, and the numbers of the used entries, read into tables lent beside it.

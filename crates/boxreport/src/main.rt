@@ -23,12 +23,8 @@ fn open<R: Files>(rt: &R, name: &[u8]) -> Result<R::File, Error> {
 impl<O: Write, E: Write> Feeder<'_, O, E> {
     // Writes a text that stands in the buffer.
     fn show(&mut self, listed: Option<usize>, text: &[u8]) -> Result<(), Stopped> {
-        let Some(n) = listed else {
-            return Err(Stopped);
-        };
-        let Some(text) = text.get(..n) else {
-            return Err(Stopped);
-        };
+        let n = listed.ok_or(Stopped)?;
+        let text = text.get(..n).ok_or(Stopped)?;
         match self.output.write_all(text) {
             Ok(()) => Ok(()),
             Err(error) => Err(stop(self.errors, b"boxreport: standard output", error)),

@@ -1,23 +1,19 @@
--- Two reads, one after the other, into one buffer.
-use Rattle.std.proofs.Common.{◌≡◌, ℕ, ◌+◌, ◌-◌, ◌≤◌, List, [], ◌++◌, arith, take, drop, sym, ap, ◌∙◌, subst}
+-- A read into the rest of a buffer, after what was read into its start.
+use Rattle.std.proofs.Common.{◌≡◌, ℕ, ◌+◌, ◌-◌, ◌≤◌, List, ◌++◌, arith, length, take, drop, sym, ap, ◌∙◌, subst, length-take-le, take-add, take-take, take_at, drop_at}
 use Rattle.std.specs.declared.option.Option.{Option}
 use Rattle.std.specs.Io.KnownBytes.{Consumes}
 use Rattle.std.proofs.KnownBytes.{Consumes-trans}
-use Rattle.std.proofs.Math.Seq.{take-add}
-use Rattle.std.proofs.lemmas.List.{append-nil}
+use Rattle.std.proofs.lemmas.Slice.{take-put_mid}
+use borrow.Rule.Slice.PartMut.{put_mid}
 
--- The first n bytes, of which the first `from` stayed.
-joined : (from n : ℕ) (old new : List ℕ) → from ≤ n → take from new ≡ take from old → take from old ++ take (n - from) (drop from new) ≡ take n new
-joined from n old new h front =
-    let same : from + (n - from) ≡ n = omega arith in
-    ap (λ l. l ++ take (n - from) (drop from new)) (sym front) ∙ sym (take-add from (n - from) new) ∙ ap (λ m. take m new) same
+-- The first bytes of the buffer, of which n came into its rest.
+joined : (i k n : ℕ) (card rest : List ℕ) → i ≤ length card → length rest ≡ k → n ≤ k → take i card ++ take n rest ≡ take (i + n) (put_mid i k card rest)
+joined i k n card rest within long few =
+    let front = length-take-le i card within in
+    sym (sym (take-take (i + n) (i + k) (put_mid i k card rest) (omega arith)) ∙ ap (take (i + n)) (take-put_mid i k card rest (i + k) (omega arith) within)
+    ∙ take-add i n (take i card ++ rest) ∙ (λ j. take_at (take i card) rest i front j ++ take n (drop_at (take i card) rest i front j)))
 
 -- What both reads consumed stands at the start of the buffer.
-pub read_more : (a b c : Option (List ℕ)) (from n : ℕ) (old new : List ℕ) → from ≤ n → take from new ≡ take from old → Consumes a b (take from old)
-    → Consumes b c (take (n - from) (drop from new)) → Consumes a c (take n new)
-read_more a b c from n old new h front first second = subst (Consumes a c) (joined from n old new h front) (Consumes-trans a b c _ _ first second)
-
--- The same where the second read gave nothing.
-pub read_none : (a b c : Option (List ℕ)) (from : ℕ) (old new : List ℕ) → take from new ≡ take from old → Consumes a b (take from old) → Consumes b c []
-    → Consumes a c (take from new)
-read_none a b c from old new front first second = subst (Consumes a c) (append-nil (take from old) ∙ sym front) (Consumes-trans a b c _ _ first second)
+pub read_more : (a b c : Option (List ℕ)) (i k n : ℕ) (card rest : List ℕ) → i ≤ length card → length rest ≡ k → n ≤ k → Consumes a b (take i card)
+    → Consumes b c (take n rest) → Consumes a c (take (i + n) (put_mid i k card rest))
+read_more a b c i k n card rest within long few first second = subst (Consumes a c) (joined i k n card rest within long few) (Consumes-trans a b c _ _ first second)

@@ -1,7 +1,7 @@
 // A card read from an open file, or from whatever else gives bytes; the names of files; and the line that says what failed.
 #![tactic(auto)]
 
-ghost use Rattle.std.specs.Prelude.{◌≡◌, IfOk, IfErr, IfSome, OnErr, IsUtf8, ◌<◌, ◌≤◌, ◌-◌, [], take, drop, length};
+ghost use Rattle.std.specs.Prelude.{◌≡◌, IfOk, IfErr, IfSome, OnErr, IsUtf8, ◌<◌, ◌≤◌, [], take, length};
 ghost use Rattle.std.specs.Io.KnownBytes.{Consumes, IsAtEnd};
 ghost use Rattle.io.specs.Counts.{IsPrefixLen};
 ghost use Rattle.std.specs.IoError.{error_kind};
@@ -17,36 +17,30 @@ pub struct ReadFailed {
 }
 
 // What a read that failed means: a signal cut it before a byte came, and it is done again, or there is no more to be had.
-fn cut_or_failed(cause: Error, from: usize) -> Result<Option<usize>, Error>
-    ensures cut { IfOk result (λ bytes. bytes ≡ Some from) }
+fn cut_or_failed(cause: Error) -> Result<Option<usize>, Error>
+    ensures cut { IfOk result (λ bytes. bytes ≡ Some 0) }
     ensures retried { IfErr result (λ e. ¬ (error_kind e ≡ Interrupted)) }
 {
     if cause.kind() == ErrorKind::Interrupted {
-        Ok(Some(from))
+        Ok(Some(0))
     } else {
         Err(cause)
     }
 }
 
-// One read of the file, after the first `from` bytes: how many bytes of it stand at the start of the buffer then, or that it has ended. A full buffer ends it:
-// nothing more is asked for.
-fn read_on<R: Read>(file: &mut R, card: &mut [u8], from: usize) -> Result<Option<usize>, Error>
-    ensures within { IfOk result (λ bytes. IfSome bytes (λ n. n ≤ length card.new)) }
-    ensures kept { IfOk result (λ bytes. IfSome bytes (λ n. from ≤ n)) }
-    ensures front { take from card.new ≡ take from card.old }
-    ensures consumed { IfOk result (λ some. IfSome some (λ n. Consumes (R.remaining file.old) (R.remaining file.new) (take (n - from) (drop from card.new)))) }
+// One read of the file into the rest of the buffer: how many bytes came, or that it has ended. No rest ends it: nothing more is asked for.
+fn read_on<R: Read>(file: &mut R, rest: &mut [u8]) -> Result<Option<usize>, Error>
+    ensures within { IfOk result (λ some. IfSome some (λ n. n ≤ length rest.new)) }
+    ensures consumed { IfOk result (λ some. IfSome some (λ n. Consumes (R.remaining file.old) (R.remaining file.new) (take n rest.new))) }
     ensures ended { result ≡ Ok None → Consumes (R.remaining file.old) (R.remaining file.new) [] }
-    ensures end { result ≡ Ok None → from < length card.new → IsAtEnd (R.remaining file.new) }
+    ensures end { result ≡ Ok None → 0 < length rest.new → IsAtEnd (R.remaining file.new) }
     ensures failed { IfErr result (λ _. Consumes (R.remaining file.old) (R.remaining file.new) []) }
     ensures retried { IfErr result (λ e. ¬ (error_kind e ≡ Interrupted)) }
 {
-    if card.len() < from {
-        return Err(Error::from(ErrorKind::InvalidInput));
-    }
-    match file.read(&mut card[from..]) {
+    match file.read(rest) {
         Ok(0) => Ok(None),
-        Ok(n) => Ok(Some(from + n)),
-        Err(error) => cut_or_failed(error, from),
+        Ok(n) => Ok(Some(n)),
+        Err(error) => cut_or_failed(error),
     }
 }
 
@@ -62,8 +56,8 @@ pub fn read_card<R: Read>(file: &mut R, card: &mut [u8]) -> Result<usize, ReadFa
 {
     let mut bytes = 0;
     for _ in 0..u64::MAX {
-        match read_on(file, card, bytes) {
-            Ok(Some(n)) => bytes = n,
+        match read_on(file, &mut card[bytes..]) {
+            Ok(Some(n)) => bytes += n,
             Ok(None) => return Ok(bytes),
             Err(error) => return Err(ReadFailed { bytes, error }),
         }
@@ -96,10 +90,7 @@ pub fn file_name(name: &[u8]) -> Result<&str, Error>
     ensures refused { OnErr result (¬ (IsUtf8 name.now)) }
     ensures kind { IfErr result (λ e. error_kind e ≡ InvalidFilename) }
 {
-    match str::from_utf8(name) {
-        Ok(text) => Ok(text),
-        Err(_) => Err(Error::new(ErrorKind::InvalidFilename, "The name is no UTF-8")),
-    }
+    str::from_utf8(name).map_err(|_| Error::new(ErrorKind::InvalidFilename, "The name is no UTF-8"))
 }
 
 // Why a name of more bytes than a name may have is not taken.

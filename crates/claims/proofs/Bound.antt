@@ -16,7 +16,6 @@ use Rattle.frame.specs.declared.Reader.{Reader}
 use Rattle.std.specs.Prelude.{Option, Some as known, None as unknown}
 use Rattle.frame.specs.declared.FrameType.{FrameType}
 use Rattle.frame.specs.Reader.{FrameAnswer}
-use Rattle.frame.specs.Reader.{sound, corrupt, not_available}
 use Rattle.frame.specs.Frame.{type_of, all_zero, header_of, content_of, ends}
 use Rattle.frame.specs.Block.{blocks}
 use Rattle.frame.specs.Reader.{fresh, judge, look, read_at, must_move, moved, read_frame, used_of, used, ahead}

@@ -12,7 +12,6 @@ use Rattle.recordlog.specs.Hit.{type_lost}
 use Rattle.record.specs.Record.{Record}
 use Rattle.queues.specs.Queues.{Capacities}
 use Rattle.queues.specs.Layout.{Memory, meaning, capacities}
-use Rattle.queues.proofs.Both.{never}
 use Rattle.calls.specs.State.{State}
 use Rattle.calls.specs.Reading.{gave_record, gave_end, readings, lost_in}
 use Rattle.calls.specs.Lost.{lost_bytes}

@@ -16,7 +16,6 @@ use Rattle.recordlog.proofs.Forward.{next_record-turned}
 use Rattle.record.specs.declared.MultiPlexedRecord.{MultiPlexedRecord}
 use Rattle.std.specs.Prelude.{Option, Some, None}
 use Rattle.record.specs.Places.{decoded_at}
-use Rattle.queues.proofs.Both.{never}
 use Rattle.calls.specs.Refusals.{reader_not_arranged, read_refusals}
 use Rattle.calls.specs.Claims.{applies_in}
 use Rattle.calls.specs.Reading.{read_refusal}

@@ -1,7 +1,7 @@
 -- Helper: for proofs; no promise rests on reading it.
 -- Folding: each byte of a message is added to later ones, until all that is left stands in the last 300.
 -- Assumes nothing.
-use Rattle.std.specs.Prelude.{◌≡◌, ◌⊎◌, List, [], ◌∷◌, ℕ, ◌+◌, ◌/◌, ◌%◌, ◌<◌, get_or}
+use Rattle.std.specs.Prelude.{◌≡◌, List, [], ◌∷◌, ℕ, ◌+◌, ◌/◌, ◌%◌, ◌<◌, get_or}
 use Rattle.std.specs.Int.Bits.{bit_xor}
 
 -- the exponents of x ^ 300 + x ^ 155 + x ^ 117 + x ^ 89 + 1, a multiple of the polynomial of CRC-32: those below the highest, and all

@@ -8,7 +8,6 @@ use native.Mathlib.Omega.{arith}
 use lib.ListN.{length, length-replicate}
 use Rattle.slices.specs.Bytes.{zeros}
 use Rattle.frame.specs.Frame.{frame_bytes}
-use Rattle.frame.specs.Block.{padding}
 use Rattle.frame.proofs.Headers.{length_frame}
 use Rattle.recordlog.specs.Write.{Frame, frames_of, bytes_of, place_after}
 use Rattle.recordlog.specs.Laid.{place_all, laid}

@@ -60,6 +60,7 @@ fn show<R: Files + Env, O: Write, E: Write>(
     let _ = print(rt, output, errors, &text[..n], log, input.len());
 }
 
+// Kept: no plainer as one with readout's `main`, for the reason that stands there.
 fn main(rt: HostRuntime) {
     let mut errors = rt.stderr();
     let mut input = [0u8; 65537];

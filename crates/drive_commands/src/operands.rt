@@ -45,6 +45,7 @@ impl Command {
 }
 
 // The command that stands at this place of the input, with all its operands.
+// Kept: no plainer: the place `p`, here and in drive_text: where a command ends (`passed`) and what a turn did (`Turned`) are said by the place in the input.
 pub fn command_at(input: &[u8], p: usize) -> Option<Command>
     ensures there { is_some result ≡ starts_command (drop p input.now) }
     ensures byte { IfSome result (λ c. byte_of c ≡ slice_index input.now p) }

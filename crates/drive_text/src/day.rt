@@ -15,6 +15,7 @@ use slices::clear;
 const MAX_INPUT_LEN: usize = 65536;
 
 // The calls, with `readout`'s memory, on a log of zeros. Answers the place behind their lines.
+// Kept: there is no heap, so the arrays stand in the frame that lends them, here, in cutdown_card and, as entries and words, in readout_text.
 fn drive_zeroed(input: &[u8], log: &mut [u8], out: &mut [u8]) -> usize
     requires { log.old ≡ zeros 65536 }
     ensures { Drove input.now log.new out.old result out.new }

@@ -75,6 +75,8 @@ fn half_even(a: u64, b: u64) -> u64
 }
 
 // The bytes before the resume point, in tenths of a percent of the log's whole blocks.
+// Kept: no plainer: `LogFits`, here, in `list` and in `end_lines`: a struct of the two numbers is made in one place, in readout_text, and taken apart in one,
+// here.
 pub fn fill_tenths(resumed: usize, log_bytes: usize) -> u64
     requires { LogFits resumed log_bytes }
     ensures { result ≡ fill_tenths resumed log_bytes }

@@ -1,5 +1,5 @@
 // The listing of the queue memory: for each queue one pass over the record table to count its records, and one to write them.
-ghost use Rattle.std.specs.Prelude.{◌≡◌, true, ◌+◌, ◌≤◌, length};
+ghost use Rattle.std.specs.Prelude.{◌≡◌, true, ◌+◌, eqb, length, count_by};
 ghost use Rattle.queues.specs.Layout.{meaning, arranged};
 ghost use Rattle.lent.specs.Memory.{memory_held};
 ghost use Rattle.queues.specs.Changes.{word_at};
@@ -7,35 +7,36 @@ ghost use Rattle.listing.specs.Internal.{SameOut, Puts, ListsFrom};
 ghost use Rattle.listing.specs.Listing.{listing};
 ghost use Rattle.listing.specs.Claims.{LogFits};
 ghost use Rattle.queues.specs.Passes.{EntriesFit, QueueFits};
-ghost use Rattle.listing.specs.Passes.{count_to, lines_to, queue_text};
+ghost use Rattle.listing.specs.Passes.{lines_to, queue_text};
 
 use crate::Text;
 use lent::HeldMemory;
 use mem_names::table::held;
 use queues::RecordEntry;
 
-// How many of the first entries are of this queue.
-fn held_of(entries: &[RecordEntry], count: usize, queue: usize) -> usize
-    requires { count ≤ length entries.now }
-    ensures { result ≡ count_to queue entries.now count }
+// How many of the entries are of this queue.
+fn held_of(entries: &[RecordEntry], queue: usize) -> usize
+    ensures { result ≡ count_by (λ e. eqb e.queue queue) entries.now }
 {
-    entries[..count].iter().filter(|e| e.queue == queue).count()
+    entries.iter().filter(|e| e.queue == queue).count()
 }
 
 impl<'a> Text<'a> {
-    // The lines of those of the first entries that are of this queue.
-    fn record_lines(&mut self, entries: &[RecordEntry], payloads: &[u8], count: usize, queue: usize)
-        requires { EntriesFit entries.now payloads.now count }
+    // The lines of those of the entries that are of this queue.
+    fn record_lines(&mut self, entries: &[RecordEntry], payloads: &[u8], queue: usize)
+        requires { EntriesFit entries.now payloads.now (length entries.now) }
         ensures same { SameOut self.old self.new }
-        ensures puts { Puts self.old (lines_to queue entries.now payloads.now count) self.new }
+        ensures puts { Puts self.old (lines_to queue entries.now payloads.now (length entries.now)) self.new }
     {
         let mut passed: usize = 0;
-        for e in &entries[..count] {
+        for e in entries {
             passed = self.entry_line(payloads, passed, *e, queue);
         }
     }
 
-    // The lines of queue k, whose name starts where the names are passed. Answers where they are passed behind it.
+    // The lines of queue k, whose name starts where the names are passed, with those of its records among the first entries. Answers where the names are passed
+    // behind it.
+    // Kept: no plainer: `count`, how many entries are held, beside the memory: the definition `queue_text` speaks of the first ones of all.
     fn queue_text(
         &mut self,
         memory: HeldMemory<'_, RecordEntry, u64>,
@@ -51,9 +52,10 @@ impl<'a> Text<'a> {
             self.new }
         ensures passed { result ≡ passed + word_at memory.entry.table.now k 0 }
     {
-        let held = held_of(memory.entries, count, k);
+        let entries = &memory.entries[..count];
+        let held = held_of(entries, k);
         let end = self.row_line(memory.names, memory.table, passed, k, held);
-        self.record_lines(memory.entries, memory.payloads, count, k);
+        self.record_lines(entries, memory.payloads, k);
         end
     }
 }

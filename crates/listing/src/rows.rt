@@ -13,6 +13,7 @@ use queues::RecordEntry;
 
 impl<'a> Text<'a> {
     // The line of queue k, whose name starts where the names are passed. Answers where the names are passed behind it.
+    // Kept: no plainer: `passed`, here, in `entry_line` and in `queue_text`: the definitions of the listing speak of the place in all names and all payloads.
     pub fn row_line(
         &mut self,
         names: &[u8],

@@ -25,9 +25,8 @@ use Rattle.recordlog.specs.Read.{Answer, whole, corruption, end_of_log, too_long
 use Rattle.recordlog.specs.Lost.{tally, no_tally, take_up, weigh_tally, join_tally, on_tally, tallies, tally_from, tally_of}
 use Rattle.recordlog.proofs.Sees.{Event, SeesBy, not_corrupt, not_sound_lem}
 use Rattle.recordlog.proofs.Sees as Plain
-use Rattle.record.specs.Record.{decode}
-use Rattle.calls.specs.Lost.{undecoded, lost_of, on_sum, sum_reads, sum_from}
-use Rattle.lost_bytes.specs.Given.{handed, given_of}
+use Rattle.calls.specs.Lost.{lost_of, on_sum, sum_reads, sum_from}
+use Rattle.lost_bytes.specs.Given.{given_of}
 
 -- a frame as it is read, and its bytes
 pub data Sized : Type 0 where

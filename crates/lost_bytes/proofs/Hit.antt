@@ -1,7 +1,6 @@
 -- What one hit frame costs in bytes; and that nothing is lost of a log that nobody changed.
 -- Assumes nothing.
 use mathlib.Core.Path.{◌≡◌, refl, sym, ap, ap₂, subst, ◌∙◌}
-use mathlib.Core.Logic.{inl, inr}
 use mathlib.Core.Bool.{Bool, true, false, cond, ◌&&◌, ◌||◌}
 use mathlib.Core.List.{List, [], ◌∷◌, ◌++◌, map, append-nil}
 use Prim.Native.Nat.{ℕ, suc, ◌+◌, ◌*◌, ◌-◌, ◌/◌, ◌≤◌, ◌<◌}
@@ -10,14 +9,13 @@ use lib.Dec.{ltb, eqb}
 use lib.ListN.{length}
 use borrow.Author.Tests.{eq-eqb, ne_eqb, lt-leb}
 use Rattle.slices.specs.Bytes.{Bytes}
-use Rattle.frame.specs.declared.Corruption.{Corruption}
 use Rattle.frame.specs.Block.{blocks}
 use Rattle.frame.specs.Reader.{fresh}
 use Rattle.frame.specs.Size.{frame_size}
 use Rattle.recordlog.specs.Write.{Frame, frames_of, place_after}
 use Rattle.recordlog.specs.Laid.{place_all, laid}
 use Rattle.recordlog.specs.Read.{idle}
-use Rattle.recordlog.specs.Lost.{no_tally, tally}
+use Rattle.recordlog.specs.Lost.{no_tally}
 use Rattle.recordlog.specs.Hit.{Hit, type_lost, loss_of, struck, any_struck}
 use Rattle.recordlog.specs.Claims.{Each, hit_size}
 use Rattle.recordlog.proofs.Sees.{Event, SeesBy, Any, fresh-arranged}
@@ -28,7 +26,7 @@ use Rattle.recordlog.proofs.Seen.{event, sees_rest}
 use Rattle.recordlog.proofs.Assemble.{continuing_behind, continuing_keep}
 use Rattle.recordlog.proofs.Back.{fresh_at, log_frames, log_length}
 use Rattle.recordlog.proofs.Hit.{each_left, each_right, hit_sees}
-use Rattle.record.specs.Record.{Record, encode}
+use Rattle.record.specs.Record.{encode}
 use Rattle.record.proofs.Codec.{decodes_back}
 use Rattle.record.proofs.Encode.{encoded_bytes}
 use Rattle.calls.specs.State.{State}

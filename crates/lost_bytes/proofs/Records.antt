@@ -1,6 +1,6 @@
 -- What frames of written records cost: lists alone, no log. A whole record costs nothing, one that is broken off its frames, frames without a beginning theirs.
 -- Assumes nothing.
-use mathlib.Core.Path.{◌≡◌, refl, sym, ap, ap₂, subst, ◌∙◌}
+use mathlib.Core.Path.{◌≡◌, refl, sym, ap, subst, ◌∙◌}
 use mathlib.Core.Logic.{◌⊎◌, inl, inr}
 use mathlib.Core.Bool.{Bool, true, false, cond, ◌||◌}
 use mathlib.Core.List.{List, [], ◌∷◌, ◌++◌, map, append_assoc, append-nil}
@@ -12,7 +12,7 @@ use Rattle.frame.specs.Frame.{begins, ends}
 use Rattle.frame.specs.declared.FrameType.{FrameType}
 use Rattle.frame.specs.declared.Corruption.{Corruption}
 use Rattle.recordlog.specs.declared.Tally.{Tally}
-use Rattle.recordlog.specs.Write.{Frame, frame_type, frames_of, place_after}
+use Rattle.recordlog.specs.Write.{Frame, frames_of, place_after}
 use Rattle.recordlog.specs.Read.{Begun, idle, within, gather_when, gather}
 use Rattle.recordlog.specs.Lost.{tally, no_tally, take_up}
 use Rattle.recordlog.specs.Hit.{struck, any_struck}
@@ -20,7 +20,7 @@ use Rattle.recordlog.specs.Claims.{Each}
 use Rattle.recordlog.proofs.Frames.{Laid, Kinds, contents_of, owned, frames_all}
 use Rattle.recordlog.proofs.Strike.{keep, keep_append, keep_id, first_struck}
 use Rattle.recordlog.proofs.Assemble.{begins_kind, ends_kind, kinds_head, Continuing, continuing_behind, continuing_keep}
-use Rattle.record.specs.Record.{Decoded, decode}
+use Rattle.record.specs.Record.{Decoded}
 use Rattle.calls.specs.Lost.{undecoded, lost_of}
 use Rattle.lost_bytes.specs.Costs.{unstruck_bytes, others_of}
 use Rattle.lost_bytes.specs.Claims.{Decodes}

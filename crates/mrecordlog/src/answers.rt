@@ -45,14 +45,11 @@ impl From<Result<Called, Refusal>> for CallTold {
 }
 
 // The number of a refusal, 0 where there is none.
-// Kept: the C interface gives refusals as numbers.
+// Kept: the C interface gives refusals as numbers. One over all error types takes a trait, and an impl of it for each.
 fn number<T: Copy>(answer: Result<T, Refusal>) -> u64
     ensures { result ≡ refused answer }
 {
-    match answer {
-        Ok(_) => 0,
-        Err(refusal) => refusal.number(),
-    }
+    answer.err().map_or(0, Refusal::number)
 }
 
 // Kept: the C interface gives the values of an answer one by one.

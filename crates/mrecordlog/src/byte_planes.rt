@@ -4,15 +4,12 @@ ghost use Rattle.planes.specs.Step.{step_answer, to_planes_left, from_planes_lef
 
 use planes::PlanesError;
 
-// Kept: the C interface gives refusals as numbers.
 // The number of a step's answer: 0 where nothing is refused.
+// Kept: the C interface gives refusals as numbers. One over all error types takes a trait, and an impl of it for each.
 fn number(answer: Result<(), PlanesError>) -> u64
     ensures { result ≡ planes_number answer }
 {
-    match answer {
-        Ok(()) => 0,
-        Err(error) => error.number(),
-    }
+    answer.err().map_or(0, PlanesError::number)
 }
 
 // The readings of a payload as planes.

@@ -23,7 +23,7 @@ use Rattle.report.specs.declared.ReportRefusal.TheVariants.{LogSize as log_size,
 use Rattle.report.specs.declared.MeanLength.{MeanLength}
 use Rattle.report.specs.Layout.{report_numbers, number_bytes, numbers_arranged, report_arranged}
 use Rattle.report.specs.Internal.{NumbersOk}
-use Rattle.report.specs.Feed.{feed_refusal, refusal_of, feed_answer_by, feed_answer, fed_report, feed_left_by, feed_left, feed_number, mean, mean_of, sound_frames, mean_answer}
+use Rattle.report.specs.Feed.{feed_refusal, refusal_of, feed_answer_by, feed_answer, fed_report, feed_left_by, feed_left, mean, mean_of, sound_frames, mean_answer}
 use Rattle.report.proofs.Bounds.{ok_numbers, ok_small, fed_ok, length-fed}
 use Rattle.report.proofs.Refusing.{length-numbers, FeedPassed}
 
@@ -87,10 +87,8 @@ module _ (report log : List ℕ) (p : FeedPassed report log) where
   fed_long = length-fed (report_numbers report) log (length-numbers report)
 
   pub numbers_fit : (ws : List ℕ) → ws ≡ report_numbers report → NumbersFit ws log
-  numbers_fit ws e = subst (λ (ws : List ℕ). NumbersFit ws log) (sym e) (record {
-    twelve = length-numbers report;
-    small = λ i. omega (arith, ok_small (plus (report_numbers report) (tally (frames_read log))) fed_long fed-numbers_ok i);
-  })
+  numbers_fit ws e = subst (λ (ws : List ℕ). NumbersFit ws log) (sym e)
+      (λ i. omega (arith, ok_small (plus (report_numbers report) (tally (frames_read log))) fed_long fed-numbers_ok i))
 
   pub fed_numbers : report_numbers (fed_report report log) ≡ plus (report_numbers report) (tally (frames_read log))
   unfolding report_numbers fed_report

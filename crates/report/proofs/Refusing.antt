@@ -1,20 +1,21 @@
 -- What a feeding is refused by, from its tests; and what is known where it is not refused.
 -- Assumes nothing.
 use mathlib.Core.Path.{◌≡◌, refl, sym, ap, ap₂, ◌∙◌}
-use mathlib.Core.Bool.{Bool, true, false, not, ◌&&◌}
+use mathlib.Core.Bool.{Bool, true, false, not, cond}
 use mathlib.Core.List.{List}
-use Prim.Native.Nat.{ℕ, ◌*◌, ◌≤◌, ◌<◌}
+use Prim.Native.Nat.{ℕ, ◌≤◌, ◌<◌}
 use native.Mathlib.Omega.{arith}
 use lib.Dec.{leb, eqb}
-use lib.ListN.{length, get_or, take, drop}
-use borrow.Author.Tests.{leb-false, le-leb, lt-leb, eqb-true, eq-eqb, ne_eqb, not-false}
+use lib.ListN.{length, get_or}
+use borrow.Author.Tests.{leb-false, le-leb, lt-leb, eqb-true, not-false}
 use Rattle.calls.specs.Refusals.{refuse_if, first_refusal, log_refused}
 use Rattle.calls.proofs.Chain.{rising_above, none_applies}
 use Rattle.calls.proofs.Passed.{LogTaken, log_taken}
 use Rattle.queues.proofs.Both.{and_left, and_right}
 use Rattle.abi_queues.proofs.Laws.{length-words_from}
-use Rattle.report.specs.Layout.{report_numbers, most_logs, most_frames, most_data, all_within, numbers_arranged, report_arranged}
-use Rattle.report.specs.Internal.{NumbersOk}
+use Rattle.std.specs.Prelude.{Some, None}
+use Rattle.report.specs.Layout.{report_numbers, most_logs, numbers_arranged, report_arranged}
+use Rattle.report.specs.Internal.{NumbersOk, arranged_numbers}
 use Rattle.report.specs.Feed.{feed_refusals, feed_refusal}
 use Rattle.report.proofs.Bounds.{numbers_ok, ok_small}
 
@@ -84,9 +85,36 @@ feed_passed report log e =
       room = omega (arith, leb-false most_logs (get_or (report_numbers report) 0 0) w.1.1.0);
     }
 
-pub numbers_small : (report ws : List ℕ) → report_arranged report ≡ true → ws ≡ report_numbers report → (i : ℕ) → get_or ws i 0 ≤ 8796093022208
-numbers_small report ws a e i =
-    omega (arith, ok_small (report_numbers report) (length-numbers report) (report_ok report a).numbers i, ap (λ (l : List ℕ). get_or l i 0) e)
+-- the numbers of a report that is arranged, and that there are none
+pub record Arranged (report ns : List ℕ) : Type 0 where
+  pub whole : report_arranged report ≡ true
+  pub numbers : ns ≡ report_numbers report
+  pub arranged : numbers_arranged ns ≡ true
+
+pub arranged_some : (report ns : List ℕ) → arranged_numbers report ≡ Some ns → Arranged report ns
+unfolding arranged_numbers report_arranged
+arranged_some report ns e = go (report_arranged report) refl e
+  where
+    go : (b : Bool) → report_arranged report ≡ b → cond b (Some (report_numbers report)) None ≡ Some ns → Arranged report ns
+    go true a f =
+        let n : ns ≡ report_numbers report = cc in
+        record {
+          whole = a;
+          numbers = n;
+          arranged = ap numbers_arranged n ∙ and_right (eqb (length report) 96) (numbers_arranged (report_numbers report)) a;
+        }
+    go false a f = absurd (let z : ◌≡◌ {A = ℕ} 0 1 = cc in omega arith)
+
+pub arranged_none : (report : List ℕ) → arranged_numbers report ≡ None → report_arranged report ≡ false
+unfolding arranged_numbers
+arranged_none report e = go (report_arranged report) e
+  where
+    go : (b : Bool) → cond b (Some (report_numbers report)) None ≡ None → b ≡ false
+    go true f = absurd (let z : ◌≡◌ {A = ℕ} 0 1 = cc in omega arith)
+    go false f = refl
+
+pub numbers_small : (ws : List ℕ) → length ws ≡ 12 → numbers_arranged ws ≡ true → (i : ℕ) → get_or ws i 0 ≤ 8796093022208
+numbers_small ws l a i = ok_small ws l (numbers_ok ws a) i
 
 pub full_by : (n m : ℕ) → n ≡ m → most_logs ≤ n → leb most_logs m ≡ true
 full_by n m e h = le-leb most_logs m (omega arith)

@@ -1,7 +1,7 @@
 -- Definition (02, Ticket 12).
 -- A report as bytes, and when it is arranged: "A report that isn't as docs/LAYOUT.md defines is 6".
 -- Assumes nothing.
-use Rattle.std.specs.Prelude.{Bool, true, ◌&&◌, List, [], ◌∷◌, ◌++◌, ℕ, ◌*◌, leb, eqb, length, get_or, take, drop}
+use Rattle.std.specs.Prelude.{Bool, ◌&&◌, List, [], ◌∷◌, ◌++◌, ℕ, ◌*◌, leb, eqb, length, get_or, take, drop}
 use Rattle.std.specs.List.{list_all}
 use Rattle.fields.specs.Le.{le_bytes}
 use Rattle.abi_queues.specs.Words.{words_from}

@@ -134,15 +134,15 @@ bytes_end ws ss = sym (get_d_plus ws (tally ss) 11)
 
 pub cells_fit : (ws log : List ℕ) (t : List (List ℕ)) (o : Others) (r : Reader) → NumbersFit ws log → Counting ws log t o r → CellsFit t
 cells_fit ws log t o r n w k b h =
-    omega (arith, w.cells k b h, cell_end ws (frames_read log) k b h, n.small (number_at k b))
+    omega (arith, w.cells k b h, cell_end ws (frames_read log) k b h, n (number_at k b))
 
 pub others_fit : (ws log : List ℕ) (t : List (List ℕ)) (o : Others) (r : Reader) (s : Seen) → NumbersFit ws log → Counting ws log t o r
     → seen log r ≡ Some s → OthersFit o s
 unfolding data_bytes
 others_fit ws log t o r s n w es = record {
-  unreadable = omega (arith, w.unread, unread_end ws (frames_read log), n.small 9);
-  over_long = omega (arith, w.long, long_end ws (frames_read log), n.small 10);
-  bytes = omega (arith, w.bytes, bytes_end ws (frames_read log), n.small 11, ap data_bytes f);
+  unreadable = omega (arith, w.unread, unread_end ws (frames_read log), n 9);
+  over_long = omega (arith, w.long, long_end ws (frames_read log), n 10);
+  bytes = omega (arith, w.bytes, bytes_end ws (frames_read log), n 11, ap data_bytes f);
 }
   where
     f : frames_ahead log r ≡ s ∷ frames_ahead log (read_frame log r).reader
@@ -150,7 +150,7 @@ others_fit ws log t o r s n w es = record {
 
 pub logs_fit : (ws log : List ℕ) → NumbersFit ws log → get_or ws 0 0 < 18446744073709551615
 unfolding tally
-logs_fit ws log n = omega (arith, n.small 0, get_d_plus ws (tally (frames_read log)) 0)
+logs_fit ws log n = omega (arith, n 0, get_d_plus ws (tally (frames_read log)) 0)
 
 -- ---- the end
 

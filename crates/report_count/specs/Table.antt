@@ -82,7 +82,6 @@ pub record OthersFit (o : Others) (s : Seen) : Type 0 where
   pub over_long : o.over_long < 18446744073709551615
   pub bytes : o.«data» + data_in s < 18446744073709551616
 
--- twelve numbers, and none of those after this log is at the largest number
-pub record NumbersFit (ws log : List ℕ) : Type 0 where
-  pub twelve : length ws ≡ 12
-  pub small : (i : ℕ) → get_or (plus ws (tally (frames_read log))) i 0 < 18446744073709551615
+-- none of the numbers after this log is at the largest number
+abbrev pub NumbersFit : List ℕ → List ℕ → Type 0
+NumbersFit ws log = (i : ℕ) → get_or (plus ws (tally (frames_read log))) i 0 < 18446744073709551615

@@ -2,7 +2,6 @@
 #![tactic(auto)]
 
 ghost use Rattle.std.specs.Prelude.{◌≡◌, ◌+◌, ◌≤◌, ◌<◌, [], length, get_or, set};
-ghost use Rattle.crc32.specs.Wide.{TableReady};
 ghost use Rattle.frame.specs.Block.{blocks};
 ghost use Rattle.report_frames.specs.Seen.{frames_read};
 ghost use Rattle.report_frames.specs.Tally.{row_of, tally};
@@ -10,8 +9,9 @@ ghost use Rattle.report_count.specs.Sums.{plus};
 ghost use Rattle.report_count.specs.Table.{counted, count_seen, count_others, table_of, others_of, numbers_of};
 ghost use Rattle.report_count.specs.Table.{CellsFit, OthersFit, NumbersFit};
 
+use crc32_fold::WideTable;
 use frame::{FrameType, Reader};
-use report_frames::{Seen, see};
+use report_frames::{Seen, Sight, see};
 
 // Beside the table: unreadable headers, over-long frames, bytes of data in sound frames.
 #[derive(Clone, Copy)]
@@ -32,6 +32,7 @@ fn count_at(table: [[u64; 2]; 4], k: usize, j: usize) -> [[u64; 2]; 4]
 }
 
 // One frame more of a row.
+// Kept: no plainer: `CellsFit` is no invariant of the table, since a count may end it: each turn has it anew from the log's length.
 fn count_row(table: [[u64; 2]; 4], k: usize, right: bool) -> [[u64; 2]; 4]
     requires { (k < 4) × CellsFit table }
     ensures { result ≡ counted table k right }
@@ -93,10 +94,8 @@ fn count_others(others: Others, seen: Seen) -> Others
 }
 
 // The table that the numbers hold.
-// Kept: no plainer: count_log takes any slice of twelve numbers, and would copy them into an array first, for two clauses fewer.
 #[tactic(auto, unfolding(crate::specs::Table::table_of))]
-fn table_of(numbers: &[u64]) -> [[u64; 2]; 4]
-    requires { length numbers.now ≡ 12 }
+fn table_of(numbers: &[u64; 12]) -> [[u64; 2]; 4]
     ensures { result ≡ table_of numbers.now }
 {
     [
@@ -108,10 +107,8 @@ fn table_of(numbers: &[u64]) -> [[u64; 2]; 4]
 }
 
 // The other counts that they hold.
-// Kept: no plainer: a slice, as in table_of.
 #[tactic(auto, unfolding(crate::specs::Table::others_of))]
-fn others_of(numbers: &[u64]) -> Others
-    requires { length numbers.now ≡ 12 }
+fn others_of(numbers: &[u64; 12]) -> Others
     ensures { result ≡ others_of numbers.now }
 {
     Others {
@@ -142,24 +139,23 @@ fn numbers_of(logs: u64, table: [[u64; 2]; 4], others: Others) -> [u64; 12]
 }
 
 // The numbers of a report after this log: the loop carries the table and the other counts side by side, up to the first end of log.
-pub fn count_log(crc: &[u32], log: &[u8], numbers: &[u64]) -> [u64; 12]
-    requires { TableReady crc.now × (1 ≤ blocks log.now) × NumbersFit numbers.now log.now }
+pub fn count_log(crc: Option<WideTable<'_>>, log: &[u8], numbers: &[u64; 12]) -> [u64; 12]
+    requires { (1 ≤ blocks log.now) × NumbersFit numbers.now log.now }
     ensures { result ≡ plus numbers.now (tally (frames_read log.now)) }
 {
     let mut table = table_of(numbers);
     let mut others = others_of(numbers);
     let mut reader = Reader::new();
-    // Kept: no plainer, `while let` would read a frame at two places, before the loop and at its end.
-    loop {
-        let sight = see(crc, log, reader);
-        let Some(seen) = sight.seen else {
-            break;
-        };
+    while let Sight {
+        seen: Some(seen),
+        reader: left,
+    } = see(crc, log, reader)
+    {
         // Kept: an array that a call answers goes through a name of its own, since the proof covers no answer laid straight into a variable that is changed.
         let next = count_seen(table, seen);
         table = next;
         others = count_others(others, seen);
-        reader = sight.reader;
+        reader = left;
     }
     numbers_of(numbers[0] + 1, table, others)
 }

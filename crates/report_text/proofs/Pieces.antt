@@ -12,9 +12,10 @@ use Rattle.listing.specs.Writing.{written, listed}
 use Rattle.listing.specs.Internal.{Wrote, Lists}
 use Rattle.listing.specs.Listing.{numbered, number_line, refused_word, space, line_feed, refusal}
 use Rattle.listing.proofs.Writes.{on, reads, wrote-length, listed-behind}
-use Rattle.std.specs.Prelude.{Some, None, Ok, Err}
+use Rattle.std.specs.Prelude.{None, Ok, Err}
 use Rattle.report.specs.declared.ReportRefusal.{ReportRefusal}
 use Rattle.report.specs.Layout.{report_numbers, report_arranged}
+use Rattle.report.proofs.Refusing.{Arranged}
 use Rattle.report.specs.Feed.{refusal_number, MeanAnswer, mean, mean_answer}
 use Rattle.report_text.specs.Text.{logs_word, full_word, first_word, middle_word, last_word, wrong_word, unreadable_word, over_long_word, data_word, mean_word, remainder_word, over_word, no_mean_line}
 use Rattle.report_text.specs.Text.{row_line, table_lines, other_lines, mean_line, count_lines, report_text, refused_line}
@@ -70,10 +71,9 @@ text_not : (report : List ℕ) → report_arranged report ≡ false → refusal 
 unfolding report_text
 text_not report e = sym (ap (λ (b : Bool). cond b (count_lines (report_numbers report) ++ mean_line (mean_answer report)) (refusal 6)) e)
 
-pub arranged_on : {s t u : List ℕ} {p q : ℕ} (report ns : List ℕ) (m : MeanAnswer) (a : Option ℕ) → report_arranged report ≡ true → ns ≡ report_numbers report
-    → m ≡ mean_answer report → Wrote s 0 (count_lines ns) p t → Wrote t p (mean_line m) q u → a ≡ listed (length u) q → Lists s (report_text report) a u
-arranged_on report ns m a e en em x y is =
-    lists a (reads (ap₂ (λ (l : List ℕ) (k : MeanAnswer). count_lines l ++ mean_line k) en em ∙ text_is report e) (on x y)) is
+pub arranged_on : {s t u : List ℕ} {p q : ℕ} (ns : List ℕ) (m : MeanAnswer) (a : Option ℕ) → Wrote s 0 (count_lines ns) p t → Wrote t p (mean_line m) q u
+    → a ≡ listed (length u) q → Lists s (count_lines ns ++ mean_line m) a u
+arranged_on ns m a x y is = lists a (on x y) is
 
 pub line_on : {s t u v z : List ℕ} {p q r m : ℕ} (n : ℕ) (name : List ℕ) (a : Option ℕ) → Wrote s 0 (numbered refused_word n) p t → Wrote t p space q u
     → Wrote u q name r v → Wrote v r line_feed m z → a ≡ listed (length z) m → Lists s (refused_line n name) a z
@@ -88,9 +88,12 @@ cleared s z u text a e l = (
   l.1 ∙ ap (λ (b : List ℕ). written b 0 text) e,
 )
 
-pub whole_text : (s z u report : List ℕ) (a : Option ℕ) → z ≡ zeros (length s) → Lists z (report_text report) a u
+pub whole_text : (s z u report ns : List ℕ) (m : MeanAnswer) (a : Option ℕ) → Arranged report ns → m ≡ mean_answer report → z ≡ zeros (length s)
+    → Lists z (count_lines ns ++ mean_line m) a u
     → (a ≡ listed (length s) (length (report_text report))) × (u ≡ written (zeros (length s)) 0 (report_text report))
-whole_text s z u report a e l = cleared s z u (report_text report) a e l
+whole_text s z u report ns m a w em e l =
+    let is = ap₂ (λ (l : List ℕ) (k : MeanAnswer). count_lines l ++ mean_line k) w.numbers em ∙ text_is report w.whole in
+    cleared s z u (report_text report) a e (subst (λ (text : List ℕ). Lists z text a u) is l)
 
 pub refused_text : (s z u report : List ℕ) (a : Option ℕ) → report_arranged report ≡ false → z ≡ zeros (length s) → Lists z (refusal 6) a u
     → (a ≡ listed (length s) (length (report_text report))) × (u ≡ written (zeros (length s)) 0 (report_text report))

@@ -1,11 +1,10 @@
 // What the depot's tool prints for a report, and a card fed.
 #![tactic(auto)]
 
-ghost use Rattle.std.specs.Prelude.{◌≡◌, true, Some, Ok, length};
+ghost use Rattle.std.specs.Prelude.{◌≡◌, ◌++◌, Some, Ok, length};
 ghost use Rattle.slices.specs.Bytes.{zeros};
 ghost use Rattle.listing.specs.Writing.{written, listed};
 ghost use Rattle.listing.specs.Internal.{SameOut, Puts, Lists};
-ghost use Rattle.report.specs.Layout.{report_numbers, report_arranged};
 ghost use Rattle.report.specs.Feed.{feed_number, mean_answer};
 ghost use Rattle.report_text.specs.Text.{row_line, table_lines, other_lines, mean_line, count_lines, report_text, refused_line, card_refusal, card_left};
 
@@ -75,14 +74,17 @@ fn put_mean(text: &mut Text, mean: Result<Option<MeanLength>, ReportRefusal>)
     }
 }
 
-// The text of an arranged report, from the buffer's start on.
-fn list_arranged(out: &mut [u8], report: &[u8]) -> Option<usize>
-    requires { report_arranged report.now ≡ true }
-    ensures { Lists out.old (report_text report.now) result out.new }
+// The text of an arranged report by its numbers and their mean, from the buffer's start on.
+fn list_arranged(
+    out: &mut [u8],
+    numbers: &[u64; 12],
+    mean: Result<Option<MeanLength>, ReportRefusal>,
+) -> Option<usize>
+    ensures { Lists out.old (count_lines numbers.now ++ mean_line mean) result out.new }
 {
     let mut text = Text { out, at: 0 };
-    put_counts(&mut text, &report::numbers_in(report));
-    put_mean(&mut text, report::mean(report));
+    put_counts(&mut text, numbers);
+    put_mean(&mut text, mean);
     text.listed()
 }
 
@@ -92,10 +94,10 @@ pub fn list_report(report: &[u8], out: &mut [u8]) -> Option<usize>
         × (out.new ≡ written (zeros (length out.old)) 0 (report_text report.now)) }
 {
     clear(out);
-    if !report::report_arranged(report) {
-        return refused(out, Refusal::NotArranged.number());
+    match report::arranged_numbers(report) {
+        Some(numbers) => list_arranged(out, &numbers, report::mean(report)),
+        None => refused(out, Refusal::NotArranged.number()),
     }
-    list_arranged(out, report)
 }
 
 // The line for a card that is refused, from the buffer's start on.

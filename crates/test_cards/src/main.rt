@@ -3,35 +3,37 @@
 // of more than 65,537 bytes, and one of which more is stored than it has, end the list.
 #![tactic(auto)]
 
-fn list(card: &[u8]) {
+use std::io::{self, Read};
+
+fn list(rt: &impl Print, card: &[u8]) -> io::Result<()> {
     let mut out = [0u8; 420235];
-    let Some(n) = readout_text::list_card(card, &mut out) else {
-        return;
-    };
-    io::write_all(1, &out[..n]);
+    match readout_text::list_card(card, &mut out) {
+        Some(n) => rt.write_all(&out[..n]),
+        None => Ok(()),
+    }
 }
 
 // The next card, where there is one, in a buffer of zeros.
-fn next_card(room: &mut [u8]) -> Option<&[u8]> {
+fn next_card<'a>(input: &mut impl Read, room: &'a mut [u8]) -> Option<&'a [u8]> {
     let mut head = [0u8; 6];
-    if io::read_full(0, &mut head) < 6 {
-        return None;
-    }
+    input.read_exact(&mut head).ok()?;
     let [a, b, c, d, e, f] = head;
     let len = u32::from_le_bytes([a, b, c, 0]) as usize;
     let stored = u32::from_le_bytes([d, e, f, 0]) as usize;
     let card = room.get_mut(..len)?;
-    io::read_full(0, card.get_mut(..stored)?);
+    let _ = input.read_exact(card.get_mut(..stored)?);
     Some(card)
 }
 
-fn main() {
+fn main(rt: HostRuntime) -> io::Result<()> {
+    let mut input = rt.stdin();
     for _ in 0..1000 {
         let mut room = [0u8; 65537];
-        let Some(card) = next_card(&mut room) else {
+        let Some(card) = next_card(&mut input, &mut room) else {
             break;
         };
-        list(card);
-        io::write_all(1, b"\n");
+        list(&rt, card)?;
+        println!(rt; "")?;
     }
+    Ok(())
 }

@@ -2,7 +2,8 @@
 use crate::command::Write;
 use multi_record_log::{Called, Refusal, Replayed};
 
-// Kept: no plainer: `run` can't fail, and with `print!` each function below it takes the runtime and answers a result.
+// Kept: no plainer: `run` can't fail, and with `print!` each function below it takes the runtime and answers a result. One with test_log_text takes a crate for
+// the one line.
 pub fn text(s: &[u8]) {
     io::write_all(1, s);
 }
@@ -19,10 +20,7 @@ pub fn refused(refusal: Refusal) {
 
 // The CRC-32 of some bytes, as a number.
 pub fn sum(s: &[u8]) -> u64 {
-    match s.split_first() {
-        Some((first, rest)) => u64::from(crc32_frame::checksum(*first, rest)),
-        None => 0,
-    }
+    u64::from(crc32::update_all(0xffff_ffff, s) ^ 0xffff_ffff)
 }
 
 pub fn say_crc(what: &[u8], s: &[u8]) {

@@ -3,6 +3,7 @@ ghost use Rattle.std.specs.Prelude.{◌<◌, ◌≤◌, length};
 
 use crate::line::{decimal, split_once};
 
+// Kept: no plainer: `char::to_digit` takes capitals too, which are 0 here.
 fn hex_digit(byte: u8) -> u8
     ensures { result < 16 }
 {

@@ -4,7 +4,7 @@ use crate::bytes::fill;
 use crate::command::Write;
 use crate::line::Line;
 use crate::memory::Memory;
-use multi_record_log::{Called, Refusal};
+use multi_record_log::{Called, Mark, Refusal};
 
 // The lengths of payloads that have this many bytes in all: the first has all of them, or, where they are spread evenly, each as many as the next or one more.
 fn spread(lens: &mut [u64], bytes: u64, even: bool) {
@@ -59,9 +59,11 @@ fn call(
         }
         Write::Append => append(memory, name, line),
         Write::Mark => {
-            let shift = line.number_or_0(b"shift");
-            let clock = line.number_or_0(b"clock");
-            Some(multi_record_log::mark(writer, shift, clock))
+            let said = Mark {
+                shift: line.number_or_0(b"shift"),
+                clock: line.number_or_0(b"clock"),
+            };
+            Some(multi_record_log::mark(writer, said))
         }
     }
 }

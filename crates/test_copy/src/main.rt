@@ -26,8 +26,15 @@ struct Queues {
     table: [u8; 1568],
 }
 
-// What a case says: its title, how long the log is and how many of its bytes are stored, how long the target and the scratch are, and the byte that is put into
-// the table, at a place from 1 on.
+// A byte of the table of queues, and what is put there.
+#[derive(Clone, Copy)]
+struct Change {
+    index: usize,
+    value: u8,
+}
+
+// What a case says: its title, how long the log is and how many of its bytes are stored, how long the target and the scratch are, and what is changed in the
+// table before the copy.
 #[derive(Clone, Copy)]
 struct Case {
     title: [u8; 32],
@@ -35,8 +42,7 @@ struct Case {
     stored: usize,
     target_len: usize,
     scratch_len: usize,
-    place: usize,
-    value: u8,
+    change: Option<Change>,
 }
 
 fn update(sum: u32, s: &[u8]) -> u32 {
@@ -87,6 +93,18 @@ fn next_length(input: &mut impl Read) -> io::Result<usize> {
     Ok(u32::from_le_bytes(bytes) as usize)
 }
 
+// The change that the next bytes name: a place from 1 on, 0 for none, and a byte.
+fn next_change(input: &mut impl Read) -> io::Result<Option<Change>> {
+    let place = next_length(input)?;
+    let mut value = [0u8; 1];
+    input.read_exact(&mut value)?;
+    let [value] = value;
+    let Some(index) = place.checked_sub(1) else {
+        return Ok(None);
+    };
+    Ok(Some(Change { index, value }))
+}
+
 // What the next case says, or an error where there is none.
 fn next_case(input: &mut impl Read) -> io::Result<Case> {
     let mut title = [0u8; 32];
@@ -95,17 +113,14 @@ fn next_case(input: &mut impl Read) -> io::Result<Case> {
     let stored = next_length(input)?;
     let target_len = next_length(input)?;
     let scratch_len = next_length(input)?;
-    let place = next_length(input)?;
-    let mut value = [0u8; 1];
-    input.read_exact(&mut value)?;
+    let change = next_change(input)?;
     Ok(Case {
         title,
         log_len,
         stored,
         target_len,
         scratch_len,
-        place,
-        value: value[0],
+        change,
     })
 }
 
@@ -174,9 +189,9 @@ fn run(rt: &(impl Print + AllocGlobal), case: Case, log: &[u8]) -> io::Result<()
         table: [0; 1568],
     };
     tell_replay(rt, queues.replay(log))?;
-    if let Some(index) = case.place.checked_sub(1) {
+    if let Some(Change { index, value }) = case.change {
         if let Some(byte) = queues.table.get_mut(index) {
-            *byte = case.value;
+            *byte = value;
         }
     }
     copy_kept(rt, &queues, case)

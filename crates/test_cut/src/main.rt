@@ -3,7 +3,7 @@
 // (13 where it does not fit); `log_text` says how. What must be printed is worked out by examples/cuts/make.py.
 #![tactic(auto)]
 
-use test_log_text::{clear, count_up, number, put, read_into, resume, text};
+use test_log_text::{DataLog, count_up, number, resume, text};
 
 // The lengths of the record before, of the one that is cut, and of the one written after reopening.
 #[derive(Clone, Copy)]
@@ -19,51 +19,50 @@ impl Case {
     }
 
     // The two records, and zeros from a place on.
-    fn write_and_cut(self, log: &mut [u8], data: &[u8], at: usize) {
-        clear(log);
-        let place = put(log, 0, data, self.before);
-        put(log, place, data, self.len);
-        if let Some(rest) = log.get_mut(at..) {
+    fn write_and_cut(self, written: &mut DataLog<'_, '_>, at: usize) {
+        written.clear();
+        let place = written.put(0, self.before);
+        written.put(place, self.len);
+        if let Some(rest) = written.log.get_mut(at..) {
             rest.fill(0);
         }
     }
 
-    fn cut(self, log: &mut [u8], scratch: &mut [u8], data: &[u8], at: usize) {
+    fn cut(self, written: &mut DataLog<'_, '_>, scratch: &mut [u8], at: usize) {
         number(at);
         text(b":");
-        self.write_and_cut(log, data, at);
-        let place = reopen(log, scratch, data);
+        self.write_and_cut(written, at);
+        let place = reopen(written, scratch);
         text(b" at ");
         number(place);
         text(b":");
-        put(log, place, data, self.after);
-        reopen(log, scratch, data);
+        written.put(place, self.after);
+        reopen(written, scratch);
         text(b"\n");
     }
 
     // Cuts at every place from one to another.
-    fn cuts(self, log: &mut [u8], scratch: &mut [u8], data: &[u8], from: usize, to: usize) {
+    fn cuts(self, written: &mut DataLog<'_, '_>, scratch: &mut [u8], from: usize, to: usize) {
         for at in from..to {
-            self.cut(log, scratch, data, at);
+            self.cut(written, scratch, at);
         }
     }
 }
 
-// Kept: tried, and the proof didn't close: with log, scratch and data in one struct the check has no rule for this call, which reads one and fills another.
 // All reads. Answers where a writer resumes.
-fn reopen(log: &[u8], scratch: &mut [u8], data: &[u8]) -> usize {
-    resume(read_into(log, scratch, Some(data)).reader)
+fn reopen(written: &DataLog<'_, '_>, scratch: &mut [u8]) -> usize {
+    resume(written.read(scratch).reader)
 }
 
 // First of 32,654 bytes at 107, Middle of 32,761, Last of 4,585 at 65,536; its end is 70,128.
-fn three_frames(log: &mut [u8], scratch: &mut [u8], data: &[u8]) {
+fn three_frames(written: &mut DataLog<'_, '_>, scratch: &mut [u8]) {
     let case = Case::new(100, 70000, 10);
     text(b"three frames\n");
-    case.cuts(log, scratch, data, 107, 117);
-    case.cuts(log, scratch, data, 32764, 32778);
-    case.cuts(log, scratch, data, 50000, 50001);
-    case.cuts(log, scratch, data, 65532, 65546);
-    case.cuts(log, scratch, data, 70124, 70129);
+    case.cuts(written, scratch, 107, 117);
+    case.cuts(written, scratch, 32764, 32778);
+    case.cuts(written, scratch, 50000, 50001);
+    case.cuts(written, scratch, 65532, 65546);
+    case.cuts(written, scratch, 70124, 70129);
 }
 
 // The data end in these bytes, where they have as many.
@@ -81,62 +80,75 @@ fn zeros_missing(log: &mut [u8], scratch: &mut [u8]) {
     end_with(&mut data, &[0; 10]);
     text(b"zeros at its end\n");
     let case = Case::new(100, 70000, 10);
-    case.cuts(log, scratch, &data, 70112, 70129);
+    let mut written = DataLog { log, data: &data };
+    case.cuts(&mut written, scratch, 70112, 70129);
 }
 
 // The record begins in the first of three blocks with 7 bytes left (First has no data), and with 30 (First has 23).
-fn begins_at_an_end(log: &mut [u8], scratch: &mut [u8], data: &[u8]) {
+fn begins_at_an_end(written: &mut DataLog<'_, '_>, scratch: &mut [u8]) {
     let seven = Case::new(32754, 32861, 10);
     text(b"begins with 7 bytes left\n");
-    seven.cuts(log, scratch, data, 32761, 32777);
-    seven.cuts(log, scratch, data, 65533, 65546);
+    seven.cuts(written, scratch, 32761, 32777);
+    seven.cuts(written, scratch, 65533, 65546);
     let thirty = Case::new(32731, 32884, 10);
     text(b"begins with 30 bytes left\n");
-    thirty.cuts(log, scratch, data, 32738, 32777);
-    thirty.cuts(log, scratch, data, 65533, 65546);
+    thirty.cuts(written, scratch, 32738, 32777);
+    thirty.cuts(written, scratch, 65533, 65546);
 }
 
 // With 6 bytes left they are padding, and First has 32,761 bytes; in four blocks.
 fn begins_behind_padding(scratch: &mut [u8], data: &[u8]) {
     let mut log = [0u8; 131072];
     let case = Case::new(32755, 65622, 10);
+    let mut written = DataLog {
+        log: &mut log,
+        data,
+    };
     text(b"begins with 6 bytes left\n");
-    case.cuts(&mut log, scratch, data, 32762, 32777);
-    case.cuts(&mut log, scratch, data, 65533, 65546);
-    case.cuts(&mut log, scratch, data, 98301, 98314);
+    case.cuts(&mut written, scratch, 32762, 32777);
+    case.cuts(&mut written, scratch, 65533, 65546);
+    case.cuts(&mut written, scratch, 98301, 98314);
 }
 
 // The record ends in the last block: cuts around its last header, and near its end.
-fn ends(log: &mut [u8], scratch: &mut [u8], data: &[u8], case: Case, from: usize, to: usize) {
-    case.cuts(log, scratch, data, 65533, 65546);
-    case.cuts(log, scratch, data, from, to);
+fn ends(written: &mut DataLog<'_, '_>, scratch: &mut [u8], case: Case, from: usize, to: usize) {
+    case.cuts(written, scratch, 65533, 65546);
+    case.cuts(written, scratch, from, to);
 }
 
-fn ends_at_an_end(log: &mut [u8], scratch: &mut [u8], data: &[u8]) {
+fn ends_at_an_end(written: &mut DataLog<'_, '_>, scratch: &mut [u8]) {
     text(b"leaves 7 bytes\n");
-    ends(log, scratch, data, Case::new(100, 98169, 0), 98293, 98298);
+    ends(written, scratch, Case::new(100, 98169, 0), 98293, 98298);
     text(b"leaves 6 bytes\n");
-    ends(log, scratch, data, Case::new(100, 98170, 0), 98294, 98299);
+    ends(written, scratch, Case::new(100, 98170, 0), 98294, 98299);
     text(b"leaves 30 bytes\n");
-    ends(log, scratch, data, Case::new(100, 98146, 23), 98270, 98275);
+    ends(written, scratch, Case::new(100, 98146, 23), 98270, 98275);
 }
 
 // One block: what begins in it with 7, 30 and 6 bytes left.
 fn one_block(scratch: &mut [u8], data: &[u8]) {
     let mut log = [0u8; 32768];
+    let mut written = DataLog {
+        log: &mut log,
+        data,
+    };
     text(b"one block with 7 bytes left\n");
-    Case::new(32754, 0, 0).cuts(&mut log, scratch, data, 32761, 32769);
+    Case::new(32754, 0, 0).cuts(&mut written, scratch, 32761, 32769);
     text(b"one block with 30 bytes left\n");
-    Case::new(32731, 16, 23).cuts(&mut log, scratch, data, 32738, 32762);
+    Case::new(32731, 16, 23).cuts(&mut written, scratch, 32738, 32762);
     text(b"one block with 6 bytes left\n");
-    Case::new(32755, 0, 0).cuts(&mut log, scratch, data, 32762, 32764);
+    Case::new(32755, 0, 0).cuts(&mut written, scratch, 32762, 32764);
 }
 
 // Data that end in five bytes with the checksum of five zeros: cut before them, the record reads as another one.
 fn fits_zeros(scratch: &mut [u8], data: &[u8]) {
     let mut log = [0u8; 32768];
+    let mut written = DataLog {
+        log: &mut log,
+        data,
+    };
     text(b"ends in 41 06 71 DB 01\n");
-    Case::new(60, 70, 10).cuts(&mut log, scratch, data, 136, 145);
+    Case::new(60, 70, 10).cuts(&mut written, scratch, 136, 145);
 }
 
 fn fitting(scratch: &mut [u8]) {
@@ -146,11 +158,11 @@ fn fitting(scratch: &mut [u8]) {
     fits_zeros(scratch, &data);
 }
 
-fn three_blocks(log: &mut [u8], scratch: &mut [u8], data: &[u8]) {
-    three_frames(log, scratch, data);
-    zeros_missing(log, scratch);
-    begins_at_an_end(log, scratch, data);
-    ends_at_an_end(log, scratch, data);
+fn three_blocks(written: &mut DataLog<'_, '_>, scratch: &mut [u8]) {
+    three_frames(written, scratch);
+    zeros_missing(written.log, scratch);
+    begins_at_an_end(written, scratch);
+    ends_at_an_end(written, scratch);
 }
 
 fn other_logs(scratch: &mut [u8], data: &[u8]) {
@@ -163,6 +175,10 @@ fn main() {
     let mut data = [0u8; 98304];
     count_up(&mut data);
     let mut scratch = [0u8; 98304];
-    three_blocks(&mut [0u8; 98304], &mut scratch, &data);
+    let mut written = DataLog {
+        log: &mut [0u8; 98304],
+        data: &data,
+    };
+    three_blocks(&mut written, &mut scratch);
     other_logs(&mut scratch, &data);
 }

@@ -1,29 +1,25 @@
-// Frames of data of each length at which the copying goes another way, with an empty table and with the wide one. A line has a length n; a record of n
+// Frames of data of each length at which the copying goes another way, with no table and with the wide one. A line has a length n; a record of n
 // bytes, a Full frame, with its header; one of 2 n bytes over a block's end, First and Last of n bytes each, with both headers; and n bytes copied and then
 // 1,000 more, with the register after each. After each of the three stands CRC-32 of the whole log, which was full of hex ee before.
 #![tactic(auto)]
 
 ghost use Rattle.std.specs.Prelude.{◌+◌, ◌≤◌, length};
-ghost use Rattle.crc32.specs.Wide.{TableReady};
 
+use crc32_fold::WideTable;
 use std::array;
 
-const STDOUT: i32 = 1;
-
 // Kept: no plainer: with `print!` each function here takes the runtime and answers a result, and no line gets shorter by it.
-fn text(s: &[u8]) {
-    io::write_all(STDOUT, s);
-}
+const STDOUT: i32 = 1;
 
 // A checksum or a register in eight hexadecimal digits.
 fn sum(label: &[u8], c: u32) {
-    text(label);
+    io::write_all(STDOUT, label);
     io::print_hex(STDOUT, c as u64, 8);
 }
 
 // The seven bytes at a place.
 fn header(label: &[u8], log: &[u8], at: usize) {
-    text(label);
+    io::write_all(STDOUT, label);
     for byte in log.iter().skip(at).take(7) {
         io::print_hex(STDOUT, u64::from(*byte), 2);
     }
@@ -34,9 +30,7 @@ fn whole(log: &[u8]) {
 }
 
 // A record in one frame, at the start of the second block after up to six zeros.
-fn full(table: &[u32], data: &[u8])
-    requires { TableReady table.now }
-{
+fn full(table: Option<WideTable<'_>>, data: &[u8]) {
     let mut log = [238u8; 65536];
     recordlog::write_record(table, &mut log, 32768 - data.len() % 7, data);
     header(b" Full ", &log, 32768);
@@ -44,9 +38,7 @@ fn full(table: &[u32], data: &[u8])
 }
 
 // A record from a place on that leaves half of it for the second block.
-fn split(table: &[u32], place: usize, data: &[u8])
-    requires { TableReady table.now }
-{
+fn split(table: Option<WideTable<'_>>, place: usize, data: &[u8]) {
     let mut log = [238u8; 65536];
     recordlog::write_record(table, &mut log, place, data);
     header(b" First ", &log, place);
@@ -55,8 +47,8 @@ fn split(table: &[u32], place: usize, data: &[u8])
 }
 
 // The first n bytes copied for a frame at place 1 of type 3, and then 1,000 more.
-fn parts(table: &[u32], data: &[u8], n: usize)
-    requires { TableReady table.now × (n + 1000 ≤ length «data».now) × (n ≤ 32761) }
+fn parts(table: Option<WideTable<'_>>, data: &[u8], n: usize)
+    requires { (n + 1000 ≤ length «data».now) × (n ≤ 32761) }
 {
     let mut log = [238u8; 65536];
     let first = crc32_copy::copy_in(table, &mut log, 1, 3, data, n);
@@ -66,22 +58,18 @@ fn parts(table: &[u32], data: &[u8], n: usize)
     whole(&log);
 }
 
-fn line(table: &[u32], data: &[u8], n: usize)
-    requires { TableReady table.now }
-{
+fn line(table: Option<WideTable<'_>>, data: &[u8], n: usize) {
     io::print_decimal(STDOUT, n as u64);
-    text(b":");
+    io::write_all(STDOUT, b":");
     if n <= 32761 && 65522 <= data.len() {
         full(table, &data[..n]);
         split(table, 32761 - n, &data[..2 * n]);
         parts(table, data, n);
     }
-    text(b"\n");
+    io::write_all(STDOUT, b"\n");
 }
 
-fn lines(table: &[u32])
-    requires { TableReady table.now }
-{
+fn lines(table: Option<WideTable<'_>>) {
     // The numbers from 0 on, 251 of them over and over.
     let data: [u8; 65522] = array::from_fn(|i| (i % 251) as u8);
     let sizes = [
@@ -93,10 +81,10 @@ fn lines(table: &[u32])
 }
 
 fn main() {
-    text(b"with an empty table\n");
-    lines(&[]);
-    let mut table = [0u32; 4096];
-    crc32_frame::fill_table(&mut table);
-    text(b"with the wide table\n");
-    lines(&table);
+    io::write_all(STDOUT, b"with an empty table\n");
+    lines(None);
+    let mut entries = [0u32; 4096];
+    crc32_frame::fill_table(&mut entries);
+    io::write_all(STDOUT, b"with the wide table\n");
+    lines(WideTable::lent(&entries));
 }

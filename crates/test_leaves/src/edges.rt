@@ -3,6 +3,8 @@
 use crate::STDOUT;
 
 // The bytes in hex, or a dash where there are none.
+// Kept: no plainer, here and in test_planes, where an empty run prints nothing and no dash: one loop over the kit's `print_hex`; a crate for it is longer than
+// both.
 fn print_bytes(name: &[u8]) {
     if name.is_empty() {
         io::write_all(STDOUT, b"-");

@@ -1,7 +1,6 @@
 // Runs published CRC-32 values through the code and writes each beside what it should be.
-ghost use Rattle.crc32.specs.Wide.{TableReady};
-
 use crate::STDOUT;
+use crc32_fold::WideTable;
 use std::array;
 
 // A label and a checksum in eight hexadecimal digits.
@@ -11,13 +10,11 @@ fn value(label: &[u8], sum: u32) {
 }
 
 // The checksum of a frame whose type byte is the message's first byte, by each of the three ways.
-fn framed(table: &[u32], first: u8, rest: &[u8])
-    requires { TableReady table.now }
-{
+fn framed(table: Option<WideTable<'_>>, first: u8, rest: &[u8]) {
     value(b", checksum ", crc32_frame::checksum(first, rest));
     value(
         b", with an empty table ",
-        crc32_frame::checksum_with(&[], first, rest),
+        crc32_frame::checksum_with(None, first, rest),
     );
     value(
         b", with the wide table ",
@@ -25,9 +22,7 @@ fn framed(table: &[u32], first: u8, rest: &[u8])
     );
 }
 
-fn line(table: &[u32], name: &[u8], message: &[u8], expected: u32)
-    requires { TableReady table.now }
-{
+fn line(table: Option<WideTable<'_>>, name: &[u8], message: &[u8], expected: u32) {
     io::write_all(STDOUT, name);
     value(b": should be ", expected);
     value(
@@ -40,9 +35,7 @@ fn line(table: &[u32], name: &[u8], message: &[u8], expected: u32)
     io::write_all(STDOUT, b"\n");
 }
 
-fn texts(table: &[u32])
-    requires { TableReady table.now }
-{
+fn texts(table: Option<WideTable<'_>>) {
     line(table, b"nothing", b"", 0x0000_0000);
     line(table, b"a", b"a", 0xe8b7_be43);
     line(table, b"abc", b"abc", 0x3524_41c2);
@@ -56,9 +49,7 @@ fn count_up<const N: usize>() -> [u8; N] {
     array::from_fn(|i| (i % 251) as u8)
 }
 
-fn runs(table: &[u32])
-    requires { TableReady table.now }
-{
+fn runs(table: Option<WideTable<'_>>) {
     line(table, b"32 bytes of 00", &[0u8; 32], 0x190a_55ad);
     line(table, b"32 bytes of ff", &[255u8; 32], 0xff6c_ab0b);
     line(table, b"00 to 1f", &count_up::<32>(), 0x9126_7e8a);
@@ -73,8 +64,9 @@ fn runs(table: &[u32])
 
 // All of them.
 pub fn run() {
-    let mut table = [0u32; 4096];
-    crc32_frame::fill_table(&mut table);
-    texts(&table);
-    runs(&table);
+    let mut entries = [0u32; 4096];
+    crc32_frame::fill_table(&mut entries);
+    let table = WideTable::lent(&entries);
+    texts(table);
+    runs(table);
 }

@@ -14,16 +14,13 @@ pub struct AllRead {
 }
 
 // Kept: no plainer: these functions can't fail, and with `print!` each of them takes the runtime and answers a result, and so does each one that calls them.
+// One with test_commands takes a crate for the one line.
 pub fn text(s: &[u8]) {
     io::write_all(1, s);
 }
 
 pub fn number(n: usize) {
     io::print_decimal(1, n as u64);
-}
-
-pub fn clear(log: &mut [u8]) {
-    log.fill(0);
 }
 
 // The data: 1, 2, .. 250, 0, and again from the start.
@@ -33,32 +30,51 @@ pub fn count_up(s: &mut [u8]) {
     }
 }
 
-// A record of the first n bytes of data at a place; there is none where the data are shorter.
-fn write(log: &mut [u8], place: usize, data: &[u8], n: usize) -> Option<RecordWrite> {
-    recordlog::write_record(&[], log, place, data.get(..n)?)
+// A log, and the data: each of its records is the first bytes of them.
+#[derive(Drop)]
+pub struct DataLog<'a, 'd> {
+    pub log: &'a mut [u8],
+    pub data: &'d [u8],
 }
 
-// The same. Answers the place after it; where there is no room, 13 is printed and the place stays.
-pub fn put(log: &mut [u8], place: usize, data: &[u8], n: usize) -> usize {
-    match write(log, place, data, n) {
-        Some(written) => written.next,
-        None => {
-            text(b" 13");
-            place
+impl DataLog<'_, '_> {
+    pub fn clear(&mut self) {
+        self.log.fill(0);
+    }
+
+    // A record of the first n bytes of the data at a place; there is none where the data are shorter.
+    fn write(&mut self, place: usize, n: usize) -> Option<RecordWrite> {
+        let record = self.data.get(..n)?;
+        recordlog::write_record(None, self.log, place, record)
+    }
+
+    // The same. Answers the place after it; where there is no room, 13 is printed and the place stays.
+    pub fn put(&mut self, place: usize, n: usize) -> usize {
+        match self.write(place, n) {
+            Some(written) => written.next,
+            None => {
+                text(b" 13");
+                place
+            }
         }
     }
-}
 
-// The same, with the two counts printed: frame bytes + padding bytes.
-pub fn put_counted(log: &mut [u8], place: usize, data: &[u8], n: usize) {
-    match write(log, place, data, n) {
-        Some(written) => {
-            text(b" ");
-            number(written.frame_bytes);
-            text(b"+");
-            number(written.padding_bytes);
+    // The same, with the two counts printed: frame bytes + padding bytes.
+    pub fn put_counted(&mut self, place: usize, n: usize) {
+        match self.write(place, n) {
+            Some(written) => {
+                text(b" ");
+                number(written.frame_bytes);
+                text(b"+");
+                number(written.padding_bytes);
+            }
+            None => text(b" 13"),
         }
-        None => text(b" 13"),
+    }
+
+    // All answers of a fresh reader, printed.
+    pub fn read(&self, scratch: &mut [u8]) -> AllRead {
+        read_into(self.log, scratch, Some(self.data))
     }
 }
 
@@ -89,7 +105,7 @@ pub fn read_into(log: &[u8], scratch: &mut [u8], written: Option<&[u8]>) -> AllR
         return AllRead { count: 0, reader };
     }
     for count in 0..20000 {
-        let read = recordlog::next_record(&[], log, scratch, reader);
+        let read = recordlog::next_record(None, log, scratch, reader);
         reader = read.reader;
         let answer = read.answer;
         if let Some(data) = written {

@@ -3,7 +3,7 @@
 // each item, with its position, where its payload starts and how long it is, and how the items end.
 #![tactic(auto)]
 
-use record::{MultiPlexedRecord, MultiRecord, RecordType};
+use record::{Mark, MultiPlexedRecord, MultiRecord, RecordType};
 use std::{fmt, io};
 
 // Bytes in hex.
@@ -81,7 +81,7 @@ fn print_record(rt: &impl Print, s: &[u8], r: Option<MultiPlexedRecord>) -> io::
 // The first len bytes of s.
 fn run_first(rt: &impl Print, s: &[u8], len: usize, should: &str) -> io::Result<()> {
     print!(rt; "{} first {len}: ", Hex(s))?;
-    print_record(rt, s, record::decode(s, len))?;
+    print_record(rt, s, record::decode(&s[..len.min(s.len())]))?;
     println!(rt; ", should be {should}")
 }
 
@@ -252,7 +252,11 @@ impl fmt::Display for Written {
 
 // A mark with the clock reading in little-endian bytes.
 fn run_mark(rt: &impl Print, s: &mut [u8], should: &str) -> io::Result<()> {
-    let written = Written(record::put_mark(s, 7, 513));
+    let mark = Mark {
+        shift: 7,
+        clock: 513,
+    };
+    let written = Written(record::put_mark(s, mark));
     println!(rt; "mark: {written} {}, should be {should}", Hex(s))
 }
 

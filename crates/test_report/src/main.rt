@@ -52,6 +52,7 @@ fn next_head() -> Option<Head> {
 }
 
 // The run of an item: its stored bytes, where they are no more than the run has, and zeros after them.
+// Kept: no plainer by std: a run that is cut off counts as far as it goes, of which `read_exact` tells nothing; the head is read from the same input likewise.
 fn next_run(alloc: Global, head: Head) -> Result<Vec<u8>, AllocError> {
     let mut run = vec![in alloc; 0u8; head.len]?;
     if let Some(bytes) = run.as_mut_slice().get_mut(..head.stored) {

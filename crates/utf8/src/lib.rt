@@ -52,6 +52,8 @@ fn step(w: Wanted, b: u8) -> Option<Wanted>
 }
 
 // Whether the bytes are UTF-8. Each is looked at once, by what is wanted there.
+// Kept: no plainer: std's `str::from_utf8` speaks of std's definition, where the promises on names speak of the RFC's grammar; a proof that the two agree would
+// stand in the place of this code.
 pub fn is_utf8(s: &[u8]) -> bool
     ensures { result ≡ utf8 s.now }
 {

@@ -3,7 +3,7 @@
 -- Assumes nothing.
 use mathlib.Core.Path.{◌≡◌}
 use mathlib.Core.List.{◌++◌}
-use Prim.Native.Nat.{◌+◌, ◌-◌, ◌*◌, ◌/◌, ◌^◌, ◌≤◌}
+use Prim.Native.Nat.{◌*◌, ◌/◌, ◌^◌, ◌≤◌}
 use lib.Bits.{bit_xor}
 use lib.ListN.{length, drop}
 use Rattle.slices.specs.Bytes.{zeros}

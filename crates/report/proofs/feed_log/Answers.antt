@@ -8,12 +8,14 @@ use Rattle.report.proofs.Left.{numbers_fit, stored}
 use Rattle.report.proofs.Left.{pack_room}
 use Rattle.report.proofs.feed_log.Goals as goal
 
+pub lent-crc-requires : goal.lent-crc-requires
+lent-crc-requires c = filled_ready (replicate 4096 0) _ (length-replicate {A = ℕ} 4096 0) c.fill_table.ensures.1
+
 pub numbers_in-numbers-requires : goal.numbers_in-numbers-requires
 numbers_in-numbers-requires c = (feed_passed _ _ c.requires).ok.long
 
 pub count_log-fed-requires : goal.count_log-fed-requires
 count_log-fed-requires c = (
-  filled_ready (replicate 4096 0) _ (length-replicate {A = ℕ} 4096 0) c.fill_table.ensures.1,
   (feed_passed _ _ c.requires).sized.some,
   numbers_fit _ _ (feed_passed _ _ c.requires) _ c.numbers_in-numbers.ensures,
 )

@@ -1,8 +1,6 @@
 -- `report_count::count_others` meets its contract.
 -- Assumes nothing.
-use mathlib.Core.Path.{sym, ap}
 use native.Mathlib.Omega.{arith}
-use Rattle.report_count.specs.Table.{count_others}
 use Rattle.report_count.proofs.Turns.{data_right}
 use Rattle.report_count.proofs.count_others.Goals as goal
 

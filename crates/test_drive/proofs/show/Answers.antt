@@ -6,7 +6,7 @@ use Rattle.readout_text.proofs.Short.{in_the_buffer}
 use Rattle.test_drive.proofs.show.Goals as goal
 
 pub slice_bounds-out-end : goal.slice_bounds-out-end
-slice_bounds-out-end c = in_the_buffer _ _ _ _ _ _ c.in-Some.is (c.drive.ensures.0, c.drive.ensures.1.0)
+slice_bounds-out-end g c = in_the_buffer _ _ _ _ _ _ c.in-Some.is (c.drive.ensures.0, c.drive.ensures.1.0)
 
 pub slice_bounds-print-end : goal.slice_bounds-print-end
-slice_bounds-print-end c = sym (length-take-le _ _ (in_the_buffer _ _ _ _ _ _ c.in-Some.is (c.drive.ensures.0, c.drive.ensures.1.0)))
+slice_bounds-print-end g c = sym (length-take-le _ _ (in_the_buffer _ _ _ _ _ _ c.in-Some.is (c.drive.ensures.0, c.drive.ensures.1.0)))

@@ -5,5 +5,5 @@ use lib.ListN.{replicate, length-replicate}
 use Rattle.crc32.proofs.Entries.{filled_ready}
 use Rattle.test_frames.proofs.main.Goals as goal
 
-pub lines-requires-2 : goal.lines-requires-2
-lines-requires-2 c = filled_ready (replicate 4096 0) _ (length-replicate {A = ℕ} 4096 0) c.fill_table.ensures.1
+pub lent-requires : goal.lent-requires
+lent-requires c = filled_ready (replicate 4096 0) _ (length-replicate {A = ℕ} 4096 0) c.fill_table.ensures.1

@@ -1,4 +1,4 @@
-use Rattle.std.proofs.Common.{rules, refl, sym, subst, inl, ℕ, List, length, arith}
+use Rattle.std.proofs.Common.{rules, sym, subst, ℕ, List, length, arith}
 use Rattle.frame.specs.declared.Reader.{Reader}
 use Rattle.frame.specs.Internal.{Arranged}
 use Rattle.recordlog.specs.declared.RecordRead.{RecordRead}
@@ -14,7 +14,7 @@ pub loop-count-init : goal.loop-count-init
 loop-count-init c = subst (Arranged _) (sym c.new-reader.ensures) (fresh-arranged _ (omega arith))
 
 pub next_record-read-requires : goal.next_record-read-requires
-next_record-read-requires c = (inl refl, c.loop-count.invariant)
+next_record-read-requires c = c.loop-count.invariant
 
 pub loop-count-preserved : goal.loop-count-preserved
 loop-count-preserved c = still c.loop-count.invariant c.next_record-read.ensures

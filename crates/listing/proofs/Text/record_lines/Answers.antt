@@ -1,6 +1,4 @@
 use Rattle.std.proofs.Common.{◌≡◌, ◌<◌, ◌≤◌, ◌+◌, ℕ, List, length, take, drop, get_or, refl, sym, ap, subst, ◌∙◌, arith}
-use lib.Seq.{length-take-le}
-use Rattle.std.proofs.lemmas.List.{get_or-take}
 use Rattle.queues.specs.declared.RecordEntry.{RecordEntry}
 use Rattle.queues.specs.Layout.{blank}
 use Rattle.queues.specs.Passes.{passed_to, EntriesFit}
@@ -11,35 +9,25 @@ use Rattle.listing.specs.Passes.{entry_line, lines_to}
 use Rattle.listing.proofs.Counting.{passed_zero, passed_next, lines_zero, lines_next}
 use Rattle.listing.proofs.Text.record_lines.Goals as goal
 
--- entry i of the first n, and what is passed before it
-module _ (k : ℕ) (es : List RecordEntry) (ps : List ℕ) (n i q : ℕ) (t : i < length (take n es)) (w : EntriesFit es ps n) (passed : q ≡ passed_to es i) where
-  h : i < n
-  h = subst (λ (m : ℕ). i < m) (length-take-le n es w.in_table) t
-
+-- entry i, and what is passed before it
+module _ (k : ℕ) (es : List RecordEntry) (ps : List ℕ) (i q : ℕ) (h : i < length es) (w : EntriesFit es ps (length es)) (passed : q ≡ passed_to es i) where
   abbrev here : RecordEntry
-  here = get_or (take n es) i blank
-
-  here_is : here ≡ get_or es i blank
-  here_is = get_or-take n es i blank h
+  here = get_or es i blank
 
   inside : q + here.length ≤ length ps
-  inside = omega (arith, entry_inside es ps n w i h, ap (λ (e : RecordEntry). e.length) here_is, passed)
+  inside = omega (arith, entry_inside es ps (length es) w i h, passed)
 
   passed_on : q + here.length ≡ passed_to es (i + 1)
-  passed_on = ap (λ (p : ℕ). p + here.length) passed ∙ ap (λ (e : RecordEntry). passed_to es i + e.length) here_is ∙ passed_next es i
+  passed_on = ap (λ (p : ℕ). p + here.length) passed ∙ passed_next es i
 
   lines_on : (s t u : Text) → Puts s (lines_to k es ps i) t → Puts t (entry_line k here (take here.length (drop q ps))) u → Puts s (lines_to k es ps (i + 1)) u
-  lines_on s t u x y =
-      let z : Puts t (entry_line k (get_or es i blank) (take (get_or es i blank).length (drop (passed_to es i) ps))) u =
-      subst (λ (e : RecordEntry). Puts t (entry_line k e (take e.length (drop (passed_to es i) ps))) u) here_is
-      (subst (λ (p : ℕ). Puts t (entry_line k here (take here.length (drop p ps))) u) passed y) in
-      lines_next k es ps i x z
+  lines_on s t u x y = lines_next k es ps i x (subst (λ (p : ℕ). Puts t (entry_line k here (take here.length (drop p ps))) u) passed y)
 
 pub loop-e-init : goal.loop-e-init
 loop-e-init c = record { same = refl; passed = sym (passed_zero c.args.entries.now); puts = lines_zero _ _ _ _ _ }
 
 pub entry_line-passed-requires : goal.entry_line-passed-requires
-entry_line-passed-requires c = inside c.args.queue c.args.entries.now c.args.payloads.now c.args.count c.loop-e.e-index _ c.loop-e-test.true c.requires c.loop-e.invariant.passed
+entry_line-passed-requires c = inside c.args.queue c.args.entries.now c.args.payloads.now c.loop-e.e-index _ c.loop-e-test.true c.requires c.loop-e.invariant.passed
 
 pub loop-e-preserved : goal.loop-e-preserved
 loop-e-preserved c =
@@ -48,6 +36,6 @@ loop-e-preserved c =
     let p = c.loop-e.invariant.passed in
     record {
       same = c.entry_line-passed.ensures.same ∙ c.loop-e.invariant.same;
-      passed = c.entry_line-passed.ensures.passed ∙ passed_on a.queue a.entries.now a.payloads.now a.count i _ c.loop-e-test.true c.requires p;
-      puts = lines_on a.queue a.entries.now a.payloads.now a.count i _ c.loop-e-test.true c.requires p c.args.self.now c.loop-e.self c.entry_line-passed.new.self c.loop-e.invariant.puts c.entry_line-passed.ensures.puts;
+      passed = c.entry_line-passed.ensures.passed ∙ passed_on a.queue a.entries.now a.payloads.now i _ c.loop-e-test.true c.requires p;
+      puts = lines_on a.queue a.entries.now a.payloads.now i _ c.loop-e-test.true c.requires p c.args.self.now c.loop-e.self c.entry_line-passed.new.self c.loop-e.invariant.puts c.entry_line-passed.ensures.puts;
     }
