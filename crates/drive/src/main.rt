@@ -29,6 +29,7 @@ fn keep_log<R: Files + Env, E: Write>(rt: &R, errors: &mut E, log: &[u8]) -> Res
 }
 
 // The text of an input of so many bytes, after the log. There is no log to keep of an input that is too long.
+// Kept: no plainer: streams, text and log are used once each, so that a struct of them would be made and taken apart for one run.
 fn print<R: Files + Env, O: Write, E: Write>(
     rt: &R,
     output: &mut O,

@@ -58,6 +58,8 @@ pub fn command_at(input: &[u8], p: usize) -> Option<Command>
 }
 
 // The length of the name: zeros at its end are no part of it.
+// Kept: no plainer: how many bytes the operands have, here, in `number_in`, `at_position` and twice in drive_text: they are the rest of the input behind a
+// command, and a struct of them for each width would be made there and taken apart here.
 pub fn name_len(operands: &[u8]) -> usize
     requires { 8 ≤ length operands.now }
     ensures { (result ≤ 8) × (take result operands.now ≡ name_in operands.now) }

@@ -45,6 +45,7 @@ fn drive_zeroed(input: &[u8], log: &mut [u8], out: &mut [u8]) -> usize
 }
 
 // The listing of a log behind what stands in the buffer up to a place.
+// Kept: no plainer: `at` is how much is written, which the answer counts on from.
 fn list_behind(log: &[u8], out: &mut [u8], at: usize) -> Option<usize>
     ensures { (result ≡ listed_behind (length out.old) at (card_text log.now))
         × (out.new ≡ left_behind out.old at (card_text log.now)) }

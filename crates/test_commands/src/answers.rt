@@ -35,6 +35,7 @@ pub fn say_bytes(what: &[u8], s: &[u8]) {
 }
 
 // Those of a part.
+// Kept: no plainer: places, here, in `say_record` and `say_head`, as the library tells them; nothing is printed of one that does not lie inside.
 pub fn say_part(what: &[u8], s: &[u8], start: usize, len: usize) {
     let part = s.get(start..).and_then(|rest| rest.get(..len));
     if let Some(part) = part {

@@ -25,6 +25,7 @@ fn say_answer(payloads: &[u8], answer: Result<QuestionAnswer, Refusal>) {
 }
 
 // The first record of a queue, or that after a position: its position and length.
+// Kept: no plainer: the name beside its line, here and in writes: it stands in a buffer of its own, into which the line's word was turned.
 fn first(memory: HeldMemory<'_, u8, u8>, name: &[u8], line: Line<'_>) {
     let lower = line
         .number_of_word(b"after")
