@@ -1,4 +1,4 @@
-use Rattle.std.proofs.Common.{rules, sym, subst, ℕ, List, length, arith}
+use Rattle.std.proofs.Common.{sym, subst, ℕ, List, length, arith}
 use Rattle.frame.specs.declared.Reader.{Reader}
 use Rattle.frame.specs.Internal.{Arranged}
 use Rattle.recordlog.specs.declared.RecordRead.{RecordRead}
