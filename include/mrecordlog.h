@@ -2,7 +2,7 @@
  * gives by a pointer are 0. A slice is a pointer and its length; no two slices may overlap, and none may be null, also where its length is 0.
  *
  * Lent to each call: the log, the scratch, and the queue memory: names, payloads, the record table `entries`, the further table `largest` and the table of queues
- * `table`. The tables may have any length. Of `entries` the whole entries of 24 bytes count, at most 1,024; of `largest` the whole numbers of 8 bytes, at most 1,024;
+ * `table`. The tables may have any length. Of `entries` the whole entries of 32 bytes count, at most 1,024; of `largest` the whole numbers of 8 bytes, at most 1,024;
  * of `table` the whole words of 8 bytes, at most 196, which are 4 and 3 for each queue; what lies behind them is never touched. A record, a queue, a name or a payload
  * for which there is no room is refused 12. docs/LAYOUT.md gives the layout of the tables, and says when the memory is arranged (refusal 6): what replay or a call
  * left, lent again unchanged, always is. Queue memory of zeros holds no queues. A further table with fewer numbers than `entries` has entries is 6 for every call,
@@ -32,7 +32,7 @@ extern "C" {
 #define MRECORDLOG_MAX_PAYLOADS 128
 #define MRECORDLOG_MAX_QUEUES 64
 #define MRECORDLOG_MAX_RECORDS 1024
-#define MRECORDLOG_ENTRIES_LEN(records) (24 * (size_t)(records))
+#define MRECORDLOG_ENTRIES_LEN(records) (32 * (size_t)(records))
 #define MRECORDLOG_LARGEST_LEN(records) (8 * (size_t)(records))
 #define MRECORDLOG_TABLE_LEN(queues) (8 * (4 + 3 * (size_t)(queues)))
 
@@ -144,6 +144,15 @@ uint64_t mrecordlog_largest(const uint8_t *names, size_t names_len,
                             const uint8_t *table, size_t table_len,
                             const uint8_t *name, size_t name_len,
                             uint64_t *found, uint64_t *length, uint64_t *position);
+
+/* The lowest block of the log, counted from 0, that any held record has: that of its log record's first frame header. found 1 and the block; found 0: none is held.
+ * It names no queue, and meets 6 alone. */
+uint64_t mrecordlog_first_block(const uint8_t *names, size_t names_len,
+                                const uint8_t *payloads, size_t payloads_len,
+                                const uint8_t *entries, size_t entries_len,
+                                const uint8_t *largest, size_t largest_len,
+                                const uint8_t *table, size_t table_len,
+                                uint64_t *found, uint64_t *block);
 
 /* The queues that the records of the log give, from no queues whatever the queue memory holds. lost: the number of corruption answers. lost_bytes: what is lost in
  * bytes: frames, header and data, with a wrong checksum; from each unreadable header or over-long frame to its block's end; and sound frames of no record handed out,

@@ -3,7 +3,7 @@
 use crate::frames;
 use crate::machine::{self, Machine, Room, PAYLOADS};
 use crate::plain::{Bound, Call, Mark, Queues, Record, Type, BLOCK, HEADER, LAST};
-use crate::port::{Memory, ENTRIES, LARGEST, TABLE};
+use crate::port::{Memory, ENTRIES, ENTRY, LARGEST, RECORDS, TABLE};
 use crate::random::Random;
 
 /// A step of a list: a call, a question, or closing and opening the log again, which is a replay.
@@ -28,7 +28,7 @@ pub struct List {
 
 impl List {
     pub fn room(&self) -> Room {
-        Room { log: self.log, scratch: self.scratch, names: self.names, payloads: self.payloads, queues: 64, records: ENTRIES / 24 }
+        Room { log: self.log, scratch: self.scratch, names: self.names, payloads: self.payloads, queues: 64, records: RECORDS }
     }
 
     pub fn calls(&self) -> impl Iterator<Item = &Call> {
@@ -185,7 +185,7 @@ fn step(random: &mut Random, machine: &Machine, names: &[Vec<u8>], most: usize) 
 
 /// A queue with as many records as are lent, or a few fewer, by appends of as many payloads as one may have.
 fn filled(random: &mut Random, name: &[u8]) -> Vec<Step> {
-    let mut left = ENTRIES / 24 - random.below(4);
+    let mut left = RECORDS - random.below(4);
     let mut steps = vec![Step::Call(Call::Create { name: name.to_vec() })];
     while left > 0 {
         let count = left.min(PAYLOADS);
@@ -673,12 +673,22 @@ fn number(random: &mut Random, near: u64) -> u64 {
     }
 }
 
+/// Gives some of the records that sound memory holds another block: it stays arranged.
+pub fn other_blocks(random: &mut Random, memory: &mut Memory) {
+    for entry in memory.entries.chunks_exact_mut(ENTRY).take(memory.table[16] as usize + 256 * memory.table[17] as usize) {
+        if random.once_in(2) {
+            let block = u64::from_le_bytes(entry[24..].try_into().unwrap());
+            entry[24..].copy_from_slice(&number(random, block).to_le_bytes());
+        }
+    }
+}
+
 /// Changes sound memory: a word of the tables, two words of one kind exchanged, a byte, or all of a slice; or the length of the further table.
 pub fn disarrange(random: &mut Random, memory: &mut Memory) {
     let word = |bytes: &[u8], k: usize| u64::from_le_bytes(bytes[8 * k..8 * k + 8].try_into().unwrap());
     let queues = word(&memory.table, 0).min(64) as usize;
     let names = word(&memory.table, 1).min(memory.names.len() as u64) as usize;
-    let records = word(&memory.table, 2).min(1024) as usize;
+    let records = word(&memory.table, 2).min(RECORDS as u64) as usize;
     let table_words = 4 + 3 * queues;
     let numbers = records.min(memory.largest.len() / 8);
     match random.below(25) {
@@ -690,15 +700,15 @@ pub fn disarrange(random: &mut Random, memory: &mut Memory) {
             memory.table[8 * k..8 * k + 8].copy_from_slice(&changed.to_le_bytes());
         }
         9..=12 if records > 0 => {
-            let k = random.below(3 * records);
+            let k = random.below(4 * records);
             let changed = number(random, word(&memory.entries, k));
             memory.entries[8 * k..8 * k + 8].copy_from_slice(&changed.to_le_bytes());
         }
         13 if records > 1 => {
-            let (i, j, field) = (random.below(records), random.below(records), random.below(3));
-            let (one, other) = (word(&memory.entries, 3 * i + field), word(&memory.entries, 3 * j + field));
-            memory.entries[24 * i + 8 * field..][..8].copy_from_slice(&other.to_le_bytes());
-            memory.entries[24 * j + 8 * field..][..8].copy_from_slice(&one.to_le_bytes());
+            let (i, j, field) = (random.below(records), random.below(records), random.below(4));
+            let (one, other) = (word(&memory.entries, 4 * i + field), word(&memory.entries, 4 * j + field));
+            memory.entries[ENTRY * i + 8 * field..][..8].copy_from_slice(&other.to_le_bytes());
+            memory.entries[ENTRY * j + 8 * field..][..8].copy_from_slice(&one.to_le_bytes());
         }
         14 | 15 if queues > 1 => {
             let (i, j, field) = (random.below(queues), random.below(queues), random.below(3));
@@ -732,7 +742,7 @@ pub fn disarrange(random: &mut Random, memory: &mut Memory) {
             memory.largest.truncate(len);
         }
         _ => {
-            let k = random.below((24 * records + 24).min(ENTRIES));
+            let k = random.below((ENTRY * records + ENTRY).min(ENTRIES));
             memory.entries[k] = random.next() as u8;
         }
     }

@@ -1,8 +1,8 @@
-//! docs/LAYOUT.md: when lent queue memory is arranged, and which queues it means. Of the record table the whole entries of 24 bytes count, at most 1,024, of the
+//! docs/LAYOUT.md: when lent queue memory is arranged, and which queues it means. Of the record table the whole entries of 32 bytes count, at most 1,024, of the
 //! further table the whole numbers, at most 1,024, of the table of queues the whole words, at most 196; a word that is not there counts as 0.
 
-use crate::plain::{Queue, Queues, Reader, BLOCK, LAST};
-use crate::port::{Memory, ENTRIES, LARGEST, TABLE};
+use crate::plain::{Blocks, Queue, Queues, Reader, BLOCK, LAST};
+use crate::port::{Memory, ENTRY, LARGEST, RECORDS, TABLE};
 
 fn word(bytes: &[u8], at: usize) -> u64 {
     u64::from_le_bytes(bytes[8 * at..8 * at + 8].try_into().unwrap())
@@ -15,7 +15,7 @@ pub fn words(memory: &Memory) -> usize {
 
 /// How many entries of the record table count.
 pub fn entries(memory: &Memory) -> usize {
-    (memory.entries.len() / 24).min(ENTRIES / 24)
+    (memory.entries.len() / ENTRY).min(RECORDS)
 }
 
 /// How many queues the table of queues has room for.
@@ -30,7 +30,7 @@ fn numbers(memory: &Memory) -> usize {
 
 /// The bytes of the tables that do not count: no call touches them.
 pub fn behind(memory: &Memory) -> (&[u8], &[u8], &[u8]) {
-    (&memory.entries[24 * entries(memory)..], &memory.largest[8 * numbers(memory)..], &memory.table[8 * words(memory)..])
+    (&memory.entries[ENTRY * entries(memory)..], &memory.largest[8 * numbers(memory)..], &memory.table[8 * words(memory)..])
 }
 
 /// 02, Ticket 8: "a further lent table as long as the record table; a shorter one is 6, on replay too".
@@ -64,9 +64,9 @@ fn row(memory: &Memory, k: usize) -> (u64, u64, u64) {
     (table_word(memory, 4 + 3 * k), table_word(memory, 5 + 3 * k), table_word(memory, 6 + 3 * k))
 }
 
-/// An entry: queue, position, length.
+/// An entry: queue, position, length. Its fourth number, the block, is no part of what arranged memory asks.
 fn entry(memory: &Memory, i: usize) -> (u64, u64, u64) {
-    (word(&memory.entries, 3 * i), word(&memory.entries, 3 * i + 1), word(&memory.entries, 3 * i + 2))
+    (word(&memory.entries, 4 * i), word(&memory.entries, 4 * i + 1), word(&memory.entries, 4 * i + 2))
 }
 
 fn sum(lengths: impl Iterator<Item = u64>) -> u128 {
@@ -162,6 +162,16 @@ pub fn meaning(memory: &Memory) -> Queues {
         named[queue as usize].1.records.push((position, payload));
     }
     named.into_iter().collect()
+}
+
+/// The blocks of the records that arranged memory holds.
+pub fn blocks(memory: &Memory) -> Blocks {
+    let names: Vec<Vec<u8>> = meaning(memory).into_keys().collect();
+    let held = |i| {
+        let (queue, position, _) = entry(memory, i);
+        ((names[queue as usize].clone(), position), word(&memory.entries, 4 * i + 3))
+    };
+    (0..table_word(memory, 2) as usize).map(held).collect()
 }
 
 /// A reader relative to the log that is lent.

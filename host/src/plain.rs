@@ -20,6 +20,9 @@ pub struct Queue {
 /// Queues by name, in byte order.
 pub type Queues = BTreeMap<Vec<u8>, Queue>;
 
+/// Held records by queue and position, each with "the block, counted from 0, in which its log record's first frame header stands" (02, Ticket 10).
+pub type Blocks = BTreeMap<(Vec<u8>, u64), u64>;
+
 /// The Rust's answer: "An old desk, and the Rust, give one corruption answer for it and go on."
 pub fn seen_before(reading: Reading) -> Reading {
     match reading {

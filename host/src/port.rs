@@ -2,13 +2,15 @@
 
 use crate::plain::{Call, Done};
 
-pub use mrecordlog_port::{checksum, copy, raw, read, read_by, read_numbers, Memory, MultiRecordLog as Port, Refused};
-use mrecordlog_port::{Sizes, ENTRY, NUMBER, TABLE_WORDS};
+pub use mrecordlog_port::{checksum, copy, raw, read, read_by, read_numbers, Memory, MultiRecordLog as Port, Refused, ENTRY};
+use mrecordlog_port::{Sizes, NUMBER, TABLE_WORDS};
 
-/// Bytes of the record table: 1,024 entries.
-pub const ENTRIES: usize = 1_024 * ENTRY;
-/// Bytes of the further table: 1,024 numbers.
-pub const LARGEST: usize = 1_024 * NUMBER;
+/// The most records that the record table has a use for.
+pub const RECORDS: usize = 1_024;
+/// Bytes of the record table: as many entries.
+pub const ENTRIES: usize = RECORDS * ENTRY;
+/// Bytes of the further table: as many numbers.
+pub const LARGEST: usize = RECORDS * NUMBER;
 /// Bytes of the table of queues.
 pub const TABLE: usize = 8 * TABLE_WORDS;
 

@@ -1,8 +1,8 @@
 //! A safe wrapper over `libmrecordlog.a`, the exported entries of a write-ahead queue log (include/mrecordlog.h). It owns all that the entries are lent.
 //!
 //! A [`MultiRecordLog`] is a log of whole blocks with the queues that it gives. [`MultiRecordLog::new`] starts an empty one, [`MultiRecordLog::open`] takes the bytes of
-//! one that stands; then `create`, `append`, `truncate` and `delete` write to it, and `range`, `positions` and `largest` ask. [`records`] reads any log, a damaged one too,
-//! record by record.
+//! one that stands; then `create`, `append`, `truncate` and `delete` write to it, and `range`, `positions`, `largest` and `first_block` ask. [`records`] reads any log,
+//! a damaged one too, record by record.
 //!
 //! ```
 //! use mrecordlog_port::{Bound, MultiRecordLog, Sizes, BLOCK};
@@ -257,12 +257,18 @@ impl MultiRecordLog {
         self.memory.largest(name)
     }
 
+    /// The first block of the log, counted from 0, that is still needed: the lowest that any held record has.
+    pub fn first_block(&self) -> Result<Option<u64>, Refused> {
+        self.memory.first_block()
+    }
+
     /// The queues of the log into the queue memory. The write position stays: take `resumed`.
     pub fn replay(&mut self) -> Result<Replayed, Refused> {
         replay(&self.log, &mut self.scratch, &mut self.memory)
     }
 
-    /// What is held, written into a fresh log of so many bytes without history, which is handed back with the same queues.
+    /// What is held, written into a fresh log of so many bytes without history, which is handed back with the same queues. Until it is replayed their records keep the
+    /// blocks of the old log.
     pub fn copy(&self, log: usize) -> Result<MultiRecordLog, Refused> {
         let mut fresh = MultiRecordLog { log: vec![0; log], write_position: 0, scratch: vec![0; self.scratch.len()], memory: self.memory.clone() };
         fresh.write_position = copy(&mut fresh.log, &mut fresh.scratch, &self.memory)? as usize;

@@ -3,7 +3,7 @@
 use crate::{part, raw, refused, Bound, Held, Refused, Sizes, UNSET};
 
 /// Bytes of an entry of the record table.
-pub const ENTRY: usize = 24;
+pub const ENTRY: usize = 32;
 /// Bytes of a number of the further table.
 pub const NUMBER: usize = 8;
 /// The most words that the table of queues has a use for: 4, and 3 for each of 64 queues.
@@ -111,6 +111,25 @@ impl Memory {
         match (found, length, position) {
             (0, 0, 0) => Ok(None),
             (1, _, _) => Ok(Some((length, position))),
+            _ => Err(Refused::WithValues(0)),
+        }
+    }
+
+    /// The lowest block of the log that any held record has.
+    pub fn first_block(&self) -> Result<Option<u64>, Refused> {
+        let (mut found, mut block) = (UNSET, UNSET);
+        // Safety: as in `range_by`.
+        #[rustfmt::skip]
+        let number = unsafe {
+            raw::mrecordlog_first_block(
+                self.names.as_ptr(), self.names.len(), self.payloads.as_ptr(), self.payloads.len(), self.entries.as_ptr(), self.entries.len(),
+                self.largest.as_ptr(), self.largest.len(), self.table.as_ptr(), self.table.len(), &mut found, &mut block,
+            )
+        };
+        refused(number, &[found, block])?;
+        match (found, block) {
+            (0, 0) => Ok(None),
+            (1, _) => Ok(Some(block)),
             _ => Err(Refused::WithValues(0)),
         }
     }

@@ -29,6 +29,8 @@ extern "C" {
     pub fn mrecordlog_largest(names: *const u8, names_len: usize, payloads: *const u8, payloads_len: usize, entries: *const u8, entries_len: usize,
         largest: *const u8, largest_len: usize, table: *const u8, table_len: usize, name: *const u8, name_len: usize,
         found: *mut u64, length: *mut u64, position: *mut u64) -> u64;
+    pub fn mrecordlog_first_block(names: *const u8, names_len: usize, payloads: *const u8, payloads_len: usize, entries: *const u8, entries_len: usize,
+        largest: *const u8, largest_len: usize, table: *const u8, table_len: usize, found: *mut u64, block: *mut u64) -> u64;
     pub fn mrecordlog_replay(log: *const u8, log_len: usize, scratch: *mut u8, scratch_len: usize,
         names: *mut u8, names_len: usize, payloads: *mut u8, payloads_len: usize, entries: *mut u8, entries_len: usize,
         largest: *mut u8, largest_len: usize, table: *mut u8, table_len: usize,

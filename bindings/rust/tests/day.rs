@@ -1,6 +1,9 @@
 //! The wrapper on logs of its own: no reference is needed.
 
-use mrecordlog_port::{checksum, from_planes, records, to_planes, Bound, Corruption, Counts, Held, Mark, MultiRecordLog, Reading, Record, Refused, Report, Sizes, Type, BLOCK};
+use mrecordlog_port::{
+    checksum, from_planes, records, to_planes, Bound, Corruption, Counts, Held, Mark, MultiRecordLog, Reading, Record, Refused, Report, Sizes, Type, BLOCK,
+    ENTRY,
+};
 
 fn small() -> Sizes {
     Sizes { records: 8, queues: 2, names: 16, payloads: 64, scratch: 128 }
@@ -27,10 +30,12 @@ fn a_day() {
     assert_eq!(held, [(0, b"one".to_vec()), (1, vec![]), (7, b"seven".to_vec())]);
     assert_eq!(log.positions(b"a"), Ok((0, 8)));
     assert_eq!(log.largest(b"a"), Ok(Some((5, 7))));
+    assert_eq!(log.first_block(), Ok(Some(0)));
     assert_eq!(log.truncate(b"a", 6).unwrap().0, 2);
     assert_eq!(log.positions(b"a"), Ok((7, 8)));
     log.delete(b"a").unwrap();
     assert_eq!(log.largest(b"a"), Err(Refused::Number(8)));
+    assert_eq!(log.first_block(), Ok(None));
 }
 
 #[test]
@@ -93,6 +98,33 @@ fn cut_down() {
     let (opened, _) = MultiRecordLog::open(fresh.log().to_vec(), small()).unwrap();
     assert_eq!(opened.positions(b"a"), Ok((2, 8)));
     assert_eq!(opened.range(b"a", Bound::None, Bound::None).unwrap().unwrap().position, 7);
+}
+
+/// The blocks of the first records held.
+fn blocks<const N: usize>(log: &MultiRecordLog) -> [u64; N] {
+    std::array::from_fn(|i| u64::from_le_bytes(log.memory.entries[ENTRY * i + 24..][..8].try_into().unwrap()))
+}
+
+#[test]
+fn blocks_still_needed() {
+    let mut log = MultiRecordLog::new(2 * BLOCK, Sizes { scratch: BLOCK, payloads: BLOCK, ..small() });
+    assert_eq!(log.first_block(), Ok(None));
+    log.create(b"a").unwrap();
+    // With 6 bytes left in block 0 the next header stands in block 1.
+    log.append(b"a", None, &[&vec![1; BLOCK - 19 - 31 - 6]]).unwrap();
+    log.append(b"a", None, &[b"one", b"two"]).unwrap();
+    assert_eq!((blocks(&log), log.first_block()), ([0, 1, 1], Ok(Some(0))));
+    log.truncate(b"a", 0).unwrap();
+    assert_eq!((blocks(&log), log.first_block()), ([1, 1], Ok(Some(1))));
+    let mut fresh = log.copy(BLOCK).unwrap();
+    assert_eq!(fresh.first_block(), Ok(Some(1)));
+    fresh.replay().unwrap();
+    assert_eq!((blocks(&fresh), fresh.first_block()), ([0, 0], Ok(Some(0))));
+    // Any number may stand as a block; a refusal writes 0 to both places.
+    log.memory.entries[24] = 9;
+    assert_eq!(log.first_block(), Ok(Some(1)));
+    log.memory.table[0] = 65;
+    assert_eq!(log.first_block(), Err(Refused::Number(6)));
 }
 
 #[test]

@@ -2,12 +2,12 @@
 -- Assumes nothing.
 use mathlib.Core.Path.{◌≡◌, refl, sym, ap, ap₂, ◌∙◌}
 use mathlib.Core.Bool.{true}
-use mathlib.Core.List.{List, [], ◌∷◌}
+use mathlib.Core.List.{List, [], ◌∷◌, map}
 use Prim.Native.Nat.{ℕ}
 use Rattle.record.specs.Record.{Item}
 use Rattle.std.specs.declared.ops.Bound.{Bound}
 use Rattle.std.specs.declared.ops.Bound.TheVariants.{Excluded as excluded}
-use Rattle.queues.specs.Queues.{Queue, Found, held, find, rising}
+use Rattle.queues.specs.Queues.{Stored, item_of, Queue, Found, held, find, rising}
 use Rattle.queues.specs.Ranges.{all_in_range, FirstItem, no_item, first_item, first_of, range_of}
 use Rattle.queues.specs.Layout.{Memory, meaning}
 use Rattle.largest.specs.Table.{arranged_with}
@@ -67,16 +67,19 @@ module _ (m : Memory) (ks n : List ℕ) (lo : Bound ℕ) (hi : Bound ℕ) (f : F
 
 -- ---- the first of a list
 
-record Begins (i : Item) (xs : List Item) : Type 0 where
-  later : List Item
-  parts : xs ≡ i ∷ later
+-- without its block it is i
+record Begins (i : Item) (xs : List Stored) : Type 0 where
+  first : Stored
+  is_first : item_of first ≡ i
+  later : List Stored
+  parts : xs ≡ first ∷ later
 
-begins : (i : Item) (xs : List Item) → first_of xs ≡ first_item i → Begins i xs
+begins : (i : Item) (xs : List Stored) → first_of xs ≡ first_item i → Begins i xs
 unfolding first_of
 begins i [] e = never (cc)
-begins i (x ∷ xs) e = let d : x ≡ i = cc in record { later = xs; parts = ap (λ (y : Item). y ∷ xs) d }
+begins i (x ∷ xs) e = let d : item_of x ≡ i = cc in record { first = x; is_first = d; later = xs; parts = refl }
 
-nothing : (xs : List Item) → first_of xs ≡ no_item → xs ≡ []
+nothing : (xs : List Stored) → first_of xs ≡ no_item → xs ≡ []
 unfolding first_of
 nothing [] e = refl
 nothing (x ∷ xs) e = never (cc)
@@ -89,28 +92,35 @@ module _ (m : Memory) (ks n : List ℕ) (lo : Bound ℕ) (hi : Bound ℕ) (i : I
 
   -- the range after i is the rest of the range
   range_again : all_in_range (excluded i.position) hi q.queue.records ≡ range-begins.later
-  range_again = ask_again lo hi q.queue.start q.queue.records i range-begins.later q.rises range-begins.parts
+  range_again =
+      ap (λ (x : Item). all_in_range (excluded x.position) hi q.queue.records) (sym range-begins.is_first)
+      ∙ ask_again lo hi q.queue.start q.queue.records range-begins.first range-begins.later q.rises range-begins.parts
 
 pub asked_again : AskedAgain
 unfolding range_of
 asked_again m ks n lo hi i a w k =
     let q : OfQueue m ks n = gave_of m ks n lo hi (first_item i) w in
+    let b : Begins i (all_in_range lo hi q.queue.records) = range-begins m ks n lo hi i w q in
     record {
       queue = q.queue;
       is_held = q.is_held;
-      later = (range-begins m ks n lo hi i w q).later;
-      range = (range-begins m ks n lo hi i w q).parts;
+      first = b.first;
+      is_first = b.is_first;
+      later = b.later;
+      range = b.parts;
       next =
           range_given m ks n (excluded i.position) hi a q k
-          ∙ ap (λ (xs : List Item). gave (first_of xs)) (range_again m ks n lo hi i w q);
+          ∙ ap (λ (xs : List Stored). gave (first_of xs)) (range_again m ks n lo hi i w q);
     }
 
 -- ---- to the last
 
-through : (m : Memory) (ks n : List ℕ) (hi : Bound ℕ) (lo : Bound ℕ) (is : List Item) (q : OfQueue m ks n) → Asks m ks n hi lo is → is ≡ all_in_range lo hi q.queue.records
-through m ks n hi lo _ q (last w) = sym (nothing (all_in_range lo hi q.queue.records) (first_given m ks n lo hi no_item w q))
+through : (m : Memory) (ks n : List ℕ) (hi : Bound ℕ) (lo : Bound ℕ) (is : List Item) (q : OfQueue m ks n) → Asks m ks n hi lo is
+    → is ≡ map item_of (all_in_range lo hi q.queue.records)
+through m ks n hi lo _ q (last w) = ap (map item_of) (sym (nothing (all_in_range lo hi q.queue.records) (first_given m ks n lo hi no_item w q)))
 through m ks n hi lo _ q (more {is} i w rest) =
-    ap (λ (xs : List Item). i ∷ xs) (through m ks n hi (excluded i.position) is q rest ∙ range_again m ks n lo hi i w q) ∙ sym (range-begins m ks n lo hi i w q).parts
+    let b : Begins i (all_in_range lo hi q.queue.records) = range-begins m ks n lo hi i w q in
+    ap₂ ◌∷◌ (sym b.is_first) (through m ks n hi (excluded i.position) is q rest ∙ ap (map item_of) (range_again m ks n lo hi i w q)) ∙ ap (map item_of) (sym b.parts)
 
 asked_of : (m : Memory) (ks n : List ℕ) (lo : Bound ℕ) (hi : Bound ℕ) (is : List Item) → Asks m ks n hi lo is → OfQueue m ks n
 asked_of m ks n lo hi _ (last w) = gave_of m ks n lo hi no_item w

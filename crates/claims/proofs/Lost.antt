@@ -20,7 +20,8 @@ use Rattle.calls.specs.Machine.{Listed, Fed, machine, records_of, NoneLonger}
 use Rattle.calls.specs.Run.{StatesRun as StateRun}
 use Rattle.calls.proofs.Follows.{encodings}
 use Rattle.calls.proofs.Steps.{follows}
-use Rattle.calls.proofs.Runs.{same_records, states_round_trip, states_records_read, resumes_behind}
+use Rattle.calls.proofs.Runs.{same_records, states_records_read, resumes_behind}
+use Rattle.calls.proofs.PlacedRuns.{states_round_trip}
 use Rattle.calls.proofs.OneHit.{states_one_hit_frame}
 use Rattle.lost_bytes.specs.Costs.{hit_cost}
 use Rattle.lost_bytes.proofs.Within.{lost_within}

@@ -2,7 +2,7 @@
 -- What document 01 says of every lent memory that is arranged, of every reader, of asking again, of the log's tail and of what a call counts; and what demands 2 and 3 say of `lost` and of
 -- the place where a writer resumes. Each claim is proved in proofs/ under its name in snake case.
 -- Assumes nothing.
-use Rattle.std.specs.Prelude.{Result, Err, ◌≡◌, ◌⊎◌, Bool, false, List, ◌∷◌, ◌++◌, ℕ, ◌+◌, ◌*◌, ◌≤◌, ◌<◌, length, drop}
+use Rattle.std.specs.Prelude.{Result, Err, ◌≡◌, ◌⊎◌, Bool, false, List, ◌∷◌, ◌++◌, ℕ, ◌+◌, ◌*◌, ◌≤◌, ◌<◌, length, drop, map}
 use Rattle.frame.specs.declared.Reader.{Reader}
 use Rattle.frame.specs.Reader.{fresh}
 use Rattle.frame.specs.Block.{blocks, padding}
@@ -11,7 +11,7 @@ use Rattle.recordlog.specs.Hit.{Hit, type_lost}
 use Rattle.record.specs.Record.{Item}
 use Rattle.std.specs.declared.ops.Bound.{Bound}
 use Rattle.std.specs.declared.ops.Bound.TheVariants.{Excluded as excluded}
-use Rattle.queues.specs.Queues.{Queue, held, find}
+use Rattle.queues.specs.Queues.{Stored, item_of, Queue, held, find}
 use Rattle.queues.specs.Ranges.{all_in_range, first_item, first_of}
 use Rattle.queues.specs.Layout.{Memory, meaning, capacities}
 use Rattle.calls.specs.State.{State, Call, create_call, delete_call, truncate_call, append_call, mark_call, CallAnswer, bytes_written}
@@ -155,23 +155,25 @@ StruckWithin = (h : List Fed) (l : Lent) → Run h l
 
 -- ---- "asking again with "after" that position gives the next"
 
--- i is the first of the queue's records in the range, and a answers with the next of them, or with none
+-- i is the first of the queue's records in the range, without its block, and a answers with the next of them, or with none
 pub record NextGiven (m : Memory) (n : List ℕ) (lo : Bound ℕ) (hi : Bound ℕ) (i : Item) (a : Result QuestionAnswer RefusalOf) : Type 0 where
   pub queue : Queue
   pub is_held : find n (meaning m) ≡ held queue
-  pub later : List Item
-  pub range : all_in_range lo hi queue.records ≡ i ∷ later
+  pub first : Stored
+  pub is_first : item_of first ≡ i
+  pub later : List Stored
+  pub range : all_in_range lo hi queue.records ≡ first ∷ later
   pub next : range_numbers m.payloads a ≡ record { refusal = 0; found = first_of later }
 
 abbrev pub AskedAgain : Type 0
 AskedAgain = (m : Memory) (ks n : List ℕ) (lo : Bound ℕ) (hi : Bound ℕ) (i : Item) (a : Result QuestionAnswer RefusalOf) → RangeGave m ks n lo hi (first_item i)
     → RangeKept m ks n (excluded i.position) hi a → NextGiven m n lo hi i a
 
--- and so on to the last: all records of the queue in the range, by position
+-- and so on to the last: all records of the queue in the range, by position, without their blocks
 pub record AllGiven (m : Memory) (n : List ℕ) (lo : Bound ℕ) (hi : Bound ℕ) (is : List Item) : Type 0 where
   pub queue : Queue
   pub is_held : find n (meaning m) ≡ held queue
-  pub all : is ≡ all_in_range lo hi queue.records
+  pub all : is ≡ map item_of (all_in_range lo hi queue.records)
 
 abbrev pub AskedThrough : Type 0
 AskedThrough = (m : Memory) (ks n : List ℕ) (lo : Bound ℕ) (hi : Bound ℕ) (is : List Item) → Asks m ks n hi lo is → AllGiven m n lo hi is

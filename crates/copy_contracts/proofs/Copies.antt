@@ -2,7 +2,7 @@
 -- Assumes nothing.
 use mathlib.Core.Path.{◌≡◌, refl, sym, ap, ap₂, subst, ◌∙◌}
 use mathlib.Core.Bool.{Bool, true, not, ◌||◌}
-use mathlib.Core.List.{List}
+use mathlib.Core.List.{List, []}
 use Prim.Native.Nat.{ℕ, zero, suc, ◌*◌, ◌≤◌}
 use native.Mathlib.Omega.{arith}
 use lib.ListN.{length, take, length-replicate}
@@ -15,25 +15,31 @@ use Rattle.largest.proofs.Table.{long_enough, same_entries}
 use Rattle.calls.specs.State.{State}
 use Rattle.calls.specs.Refusals.{log_refused, state_not_arranged}
 use Rattle.calls.specs.Reading.{readings}
-use Rattle.calls.specs.Replay.{left, replay_of}
+use Rattle.calls.specs.PlacedList.{placed_list}
+use Rattle.calls.specs.Replay.{Outcome, left, replay_records, replay_of}
 use Rattle.calls.specs.declared.Refusal.{Refusal as RefusalOf}
 use Rattle.std.specs.Prelude.{Result}
 use Rattle.read_step.specs.declared.Replayed.{Replayed as ReplayedAt}
 use Rattle.contracts.specs.Promises.{state_of, ReplayKept}
-use Rattle.contracts.specs.Demands.{Gives}
+use Rattle.contracts.specs.Demands.{Gives, ReplaysAs}
 use Rattle.contracts.proofs.Readings.{reads_all}
 use Rattle.contracts.proofs.Left.{with_arranged, with_kept}
 use Rattle.contracts.proofs.ReplayTable.{queues_kept}
 use Rattle.contracts.proofs.Demands.{replays_as, legal_by}
+use Rattle.cut_calls.specs.CutRecord.{machine_from}
 use Rattle.cut_calls.specs.Claims.{StatesSince}
 use Rattle.cut_contracts.proofs.PowerCut.{since_means, since_kept}
 use Rattle.copy_records.specs.Copy.{CopyLent, lent_of, copy_refusal, copied_by, copy_of}
+use Rattle.copy_records.specs.Machine.{copied_machine}
+use Rattle.copy_records.specs.Blocks.{copied_queues}
 use Rattle.copy_records.specs.Claims.{state_copied}
+use Rattle.copy_records.proofs.Unblocked.{alike_on}
 use Rattle.copy_records.proofs.Again.{arranged_ordered}
+use Rattle.copy_records.proofs.Copied.{copied_same}
 use Rattle.copy_records.proofs.Left.{copy_passed, copy_place, states_copy_reads}
-use Rattle.copy_records.proofs.Memory.{memory-arranged, memory_typed, memory_copy_replays, memory_copies_equal}
+use Rattle.copy_records.proofs.Memory.{memory-arranged, memory_typed, memory_copy_blocks, memory_copies_equal}
 use Rattle.copy_records.proofs.Onward.{states_copy_goes_on}
-use Rattle.copy_contracts.specs.Claims.{CopyDone, CopyReplays, CopiesEqual, CopyReads, copied_lent, CopyPlaced, CopyGoesOn}
+use Rattle.copy_contracts.specs.Claims.{CopyDone, EachReplay, CopyReplays, CopyBlocks, CopiesEqual, CopyReads, copied_lent, CopyPlaced, CopyGoesOn}
 
 -- ---- an answer of 0 is a copy that was not refused
 
@@ -68,11 +74,19 @@ gives_at : (log scratch scratch' : List ℕ) (m m' : Memory) (ks ks' : List ℕ)
 gives_at log scratch scratch' m m' ks ks' a c limit qs long w n f e =
     replays_as log scratch scratch' m m' a (queues_kept log m ks (λ _. long) scratch scratch' m' a ks' w) (legal_by log c limit qs e (log_refused log) refl) (left qs) (ap₂ (replay_of log) f n ∙ e)
 
+pub copy_blocks : CopyBlocks
+copy_blocks target scratch target' scratch' m ks end w again again' n n' js js' a l c j r =
+    gives_at target' again again' n n' js js' a (capacities m) (length scratch) (copied_queues (meaning m)) (was_long target scratch target' scratch' m ks end w n js c j) r l c
+    (ap (λ (log : List ℕ). replay_of log (capacities m) (length scratch)) w.target_left
+    ∙ memory_copy_blocks target scratch m ks w.typed (taken target scratch target' scratch' m ks end w) (capacities m) refl (length scratch) refl)
+
 pub copy_replays : CopyReplays
 copy_replays target scratch target' scratch' m ks end w again again' n n' js js' a l c j r =
-    gives_at target' again again' n n' js js' a (capacities m) (length scratch) (meaning m) (was_long target scratch target' scratch' m ks end w n js c j) r l c
-    (ap (λ (log : List ℕ). replay_of log (capacities m) (length scratch)) w.target_left
-    ∙ memory_copy_replays target scratch m ks w.typed (taken target scratch target' scratch' m ks end w) (capacities m) refl (length scratch) refl)
+    record {
+      queues = copied_queues (meaning m);
+      gives = copy_blocks target scratch target' scratch' m ks end w again again' n n' js js' a l c j r;
+      same_but = copied_same (meaning m);
+    }
 
 pub copies_equal : CopiesEqual
 copies_equal t₁ s₁ l₁ c₁ t₂ s₂ l₂ c₂ m₁ m₂ ks₁ ks₂ e₁ e₂ v w q l =
@@ -115,10 +129,18 @@ copy_goes_on target scratch target' scratch' m ks end w h l since =
     let v = states_copy_goes_on (lent_of target scratch m ks) (capacities m) (taken target scratch target' scratch' m ks end w)
     (memory-arranged m (was_arranged target scratch target' scratch' m ks end w)) (memory_typed m w.typed) h (state_of l)
     (subst (λ (s : State). StatesSince s h (state_of l)) (next_means target scratch target' scratch' m ks end w) (since_means (copied_lent target' end scratch' m ks) since)) in
+    let x = alike_on (replay_of l.log (capacities l.memory) (length l.scratch)) (meaning l.memory) v.replay in
+    let gives : EachReplay l.log l.scratch l.memory l.largest (λ (a : Result ReplayedAt RefusalOf) (n n' : Memory). Gives a n n' x.queues) =
+    λ again again' n n' js js' a long c j r.
+    gives_at l.log again again' n n' js js' a (capacities l.memory) (length l.scratch) x.queues
+    (omega (arith, j, same_entries l.memory n c, long_enough l.memory l.largest (with_kept l.memory l.largest (since_kept since (with_table target scratch target' scratch' m ks end w)))))
+    r long c x.left_is in
     record {
       reading = λ s gs few r. reads_all l.log s gs r ∙ v.reading (length s) few;
       replay = λ again again' n n' js js' a long c j r.
-          gives_at l.log again again' n n' js js' a (capacities l.memory) (length l.scratch) (meaning l.memory)
-          (omega (arith, j, same_entries l.memory n c, long_enough l.memory l.largest (with_kept l.memory l.largest (since_kept since (with_table target scratch target' scratch' m ks end w)))))
-          r long c v.replay;
+          record { queues = x.queues; gives = gives again again' n n' js js' a long c j r; same_but = x.same_but };
+      blocks = λ again again' n n' js js' a long c j r.
+          subst (λ (o : Outcome). ReplaysAs o a n n')
+          (sym x.left_is ∙ v.blocks ∙ ap (λ (k : Capacities). replay_records k [] (placed_list (machine_from (copied_machine (meaning m)) h).records)) (sym c))
+          (gives again again' n n' js js' a long c j r);
     }

@@ -9,20 +9,20 @@ use lib.Dec.{leb, eqb}
 use lib.ListN.{length, drop}
 use Rattle.slices.specs.Bytes.{Bytes}
 use Rattle.slices.proofs.Bytes.{take_bytes, drop_bytes}
-use Rattle.record.specs.Record.{Item, item}
 use Rattle.queues.specs.declared.RecordEntry.{RecordEntry}
-use Rattle.queues.specs.Queues.{Capacities}
-use Rattle.queues.specs.Layout.{words_for, Row, rows, Arrived, arrivals, items_of, held_entries, queues_from, meaning, arranged, at_most64, queue_room, capacities}
+use Rattle.queues.specs.Queues.{Stored, stored, Capacities}
+use Rattle.queues.specs.Layout.{words_for, Memory, Row, rows, Arrived, arrivals, items_of, held_entries, queues_from, meaning, arranged, at_most64, queue_room, capacities}
 use Rattle.queues.proofs.Both.{and_left}
 use Rattle.largest.specs.Table.{kept_true}
 use Rattle.queues.proofs.ArrangedFacts.{arranged_arrangement}
 use Rattle.queues.proofs.SumsHeld.{sums_mean}
 use Rattle.calls.specs.Claims.{queues_arranged}
 use Rattle.calls.proofs.Arranged.{arrangement_arranged}
-use Rattle.copy_records.specs.Copy.{lent_of}
+use Rattle.copy_records.specs.Copy.{lent_of, copy_refusal}
 use Rattle.copy_records.specs.Typed.{ItemsTyped, QueuesTyped}
-use Rattle.copy_records.specs.Claims.{MemoryArranged, MemoryTyped, MemoryCopyReplays, MemoryCopiesEqual}
-use Rattle.copy_records.proofs.Left.{copy_passed, states_copy_replays, states_copies_equal}
+use Rattle.copy_records.specs.Claims.{MemoryArranged, MemoryTyped, MemoryCopyReplays, MemoryCopyBlocks, MemoryCopiesEqual}
+use Rattle.copy_records.proofs.Left.{copy_passed, states_copies_equal}
+use Rattle.copy_records.proofs.Stands.{states_copy_replays, states_copy_blocks}
 
 -- ---- room for the queues held
 
@@ -63,14 +63,14 @@ unfolding arrivals
 arrivals_typed [] ps b = tt
 arrivals_typed (e ∷ es) ps b = (take_bytes e.length ps b, arrivals_typed es (drop e.length ps) (drop_bytes e.length ps b))
 
-items_on : (b : Bool) (i : Item) (is : List Item) → Bytes i.payload → ItemsTyped is → ItemsTyped (cond b (i ∷ is) is)
+items_on : (b : Bool) (i : Stored) (is : List Stored) → Bytes i.payload → ItemsTyped is → ItemsTyped (cond b (i ∷ is) is)
 items_on true i is p w = (p, w)
 items_on false i is p w = w
 
 items_typed : (k : ℕ) (xs : List Arrived) → ArrivalsTyped xs → ItemsTyped (items_of k xs)
 unfolding items_of
 items_typed k [] w = tt
-items_typed k (a ∷ xs) w = items_on (eqb a.number k) (item a.position a.payload) (items_of k xs) w.0 (items_typed k xs w.1)
+items_typed k (a ∷ xs) w = items_on (eqb a.number k) (stored a.position a.payload a.block) (items_of k xs) w.0 (items_typed k xs w.1)
 
 queues_typed : (k : ℕ) (rs : List Row) (ns : List ℕ) (xs : List Arrived) → ArrivalsTyped xs → QueuesTyped (queues_from k rs ns xs)
 unfolding queues_from
@@ -81,14 +81,24 @@ pub memory_typed : MemoryTyped
 unfolding meaning
 memory_typed m b = queues_typed 0 (rows m.table) m.names (arrivals (held_entries m) m.payloads) (arrivals_typed (held_entries m) m.payloads b)
 
--- ---- the two statements
+-- ---- the statements
+
+copied_arranged : (target scratch : List ℕ) (m : Memory) (ks : List ℕ) → copy_refusal (lent_of target scratch m ks) ≡ 0
+    → (c : Capacities) → c ≡ capacities m → queues_arranged c (meaning m) ≡ true
+unfolding lent_of
+copied_arranged target scratch m ks e c f =
+    subst (λ (x : Capacities). queues_arranged x (meaning m) ≡ true) (sym f)
+    (memory-arranged m (and_left (arranged m) (kept_true m ks) (copy_passed (lent_of target scratch m ks) e).is_arranged))
 
 pub memory_copy_replays : MemoryCopyReplays
 unfolding lent_of
 memory_copy_replays target scratch m ks b e c f limit l =
-    states_copy_replays (lent_of target scratch m ks) c e
-    (subst (λ (x : Capacities). queues_arranged x (meaning m) ≡ true) (sym f) (memory-arranged m (and_left (arranged m) (kept_true m ks) (copy_passed (lent_of target scratch m ks) e).is_arranged)))
-    (memory_typed m b) limit (omega arith)
+    states_copy_replays (lent_of target scratch m ks) c e (copied_arranged target scratch m ks e c f) (memory_typed m b) limit (omega arith)
+
+pub memory_copy_blocks : MemoryCopyBlocks
+unfolding lent_of
+memory_copy_blocks target scratch m ks b e c f limit l =
+    states_copy_blocks (lent_of target scratch m ks) c e (copied_arranged target scratch m ks e c f) (memory_typed m b) limit (omega arith)
 
 pub memory_copies_equal : MemoryCopiesEqual
 unfolding lent_of

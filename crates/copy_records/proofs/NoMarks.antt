@@ -3,7 +3,8 @@
 use mathlib.Core.Path.{◌≡◌, refl, ap, ◌∙◌}
 use mathlib.Core.List.{List, [], ◌∷◌, ◌++◌}
 use Prim.Native.Nat.{ℕ}
-use Rattle.record.specs.Record.{Item, Record}
+use Rattle.record.specs.Record.{Record}
+use Rattle.queues.specs.Queues.{Stored}
 use Rattle.calls.specs.Desks.{marks_in}
 use Rattle.calls.specs.Marks.{shifts_of}
 use Rattle.calls.proofs.Marks.{marks_given}
@@ -11,7 +12,7 @@ use Rattle.copy_records.specs.Copy.{appends_of, queue_records, copy_records}
 use Rattle.copy_records.specs.Claims.{CopyCarriesNoMarks, StatesCopyListsNone}
 use Rattle.copy_records.proofs.Left.{states_copy_reads}
 
-appends_none : (n : List ℕ) (is : List Item) (rs : List Record) → shifts_of (appends_of n is ++ rs) ≡ shifts_of rs
+appends_none : (n : List ℕ) (is : List Stored) (rs : List Record) → shifts_of (appends_of n is ++ rs) ≡ shifts_of rs
 unfolding shifts_of appends_of
 appends_none n [] rs = refl
 appends_none n (i ∷ is) rs = appends_none n is rs

@@ -1,5 +1,5 @@
 -- Definition (02, Ticket 1).
--- The plain machine as it stands after a copy: the copy's records with the frames that they own, its queues and its end. Calls go on from there.
+-- The plain machine as it stands after a copy: the copy's records with the frames that they own, the held queues and the copy's end. Calls go on from there.
 -- Assumes nothing.
 use Rattle.std.specs.Prelude.{List, [], ◌∷◌, ℕ}
 use Rattle.recordlog.specs.Write.{frames_of, place_after}

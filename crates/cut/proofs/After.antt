@@ -20,15 +20,17 @@ use Rattle.frame.proofs.Headers.{header}
 use Rattle.recordlog.specs.Write.{frames_of, bytes_of, record_bytes, place_after}
 use Rattle.recordlog.specs.Laid.{place_all, records_bytes}
 use Rattle.recordlog.specs.Claims.{read_all, Each}
-use Rattle.recordlog.specs.Read.{whole, end_of_log, reads_from, resume}
+use Rattle.recordlog.specs.Read.{Answer, whole, end_of_log, resume}
+use Rattle.recordlog.proofs.Sited.{Sited, ended, unsited, sited_from, sited_forgets}
+use Rattle.recordlog.proofs.SitedRecords.{given_all}
 use Rattle.recordlog.proofs.Frames.{end_of, length_bytes, frames_all, length_record, length-written}
 use Rattle.recordlog.proofs.Needed.{needs}
 use Rattle.cut.specs.Cut.{Left, headed, nothing, torn, left, covered}
-use Rattle.cut.specs.Claims.{cut_log, given, write_all, given_after, CutWritten}
+use Rattle.cut.specs.Claims.{cut_log, given, write_all, given_after, Cutting, CutWritten}
 use Rattle.cut.proofs.See.{beyond}
-use Rattle.cut.proofs.State.{Fits, Clean, Headed, Torn, State, is_clean, is_headed, is_torn, state}
-use Rattle.cut.proofs.Reading.{finished_all, ends_at, clean_gives, headed_gives, torn_on_gives, clean_read, headed_read, torn_read, torn_place, beyond_inside, beyond_fits, cut_blocks}
-use Rattle.cut.proofs.Writing.{Written, written, write_all_lem}
+use Rattle.cut.proofs.State.{given_at, Fits, Clean, Headed, Torn, State, is_clean, is_headed, is_torn, state}
+use Rattle.cut.proofs.Reading.{unsited_at, unsited_parts, ends_at, clean_gives, headed_gives, torn_on_gives, clean_read, headed_read, torn_read, torn_place, beyond_inside, beyond_fits, cut_blocks}
+use Rattle.cut.proofs.Writing.{Written, written, write_all_lem, given_same}
 
 -- a run put over one that is no longer
 put_covers : (front u y r : List ℕ) (h : ℕ) → length front ≡ h → length u ≤ length r → put (front ++ (u ++ y)) h r ≡ front ++ (r ++ drop (length r - length u) y)
@@ -39,6 +41,10 @@ put_covers front u y r h l g =
     (sym (drop-drop (length r) h (front ++ (u ++ y))) ∙ ap (drop (length r)) (drop_at front (u ++ y) h l)
     ∙ ap (λ (i : ℕ). drop i (u ++ y)) e ∙ drop-append-add u y (length r - length u))
 
+-- `given_after` with the place of the first header of the record that was cut; it was written at p
+unfoldable pub given_at_after : ℕ → Left → ℕ → List ℕ → List (List ℕ) → List Sited
+given_at_after n l p xs rs = cond (covered n l rs) [] (given_at l p xs)
+
 -- a record needs a header
 longer : (q : ℕ) (ys : List ℕ) (rs : List (List ℕ)) → 7 ≤ length (records_bytes q (ys ∷ rs))
 unfolding records_bytes place_after
@@ -47,9 +53,10 @@ longer q ys rs = omega (arith, length-append (record_bytes q ys) (records_bytes 
 module _ (n limit : ℕ) (before : List (List ℕ)) (xs tail log : List ℕ) (fit : Fits limit before xs) (hn : 0 < n) (ht : length tail < 32768)
     (rs : List (List ℕ)) (hr : Each (λ ys. length ys ≤ limit) rs) (q : ℕ) (room : place_all q rs ≤ n * 32768) where
   clean_after : {l : Left} (s : Clean n before xs tail log l) → (q ≡ end_of 0 s.frames) ⊎ (q ≡ end_of 0 s.frames + padding (end_of 0 s.frames))
-      → (reads_from (write_all log q rs) limit fresh).answers ≡ map whole before ++ (given l xs ++ (map whole rs ++ (end_of_log ∷ [])))
-  clean_after s g =
-      (clean_gives limit s fit hn rs hr (write_all log q rs) (e + s.k - place_all e rs) (omega (arith, w.size, s.total)) w.is (omega (arith, w.inside, s.total))).answers
+      → sited_from (write_all log q rs) limit fresh ≡ given_all 0 before ++ (given_at l (place_all 0 before) xs ++ (given_all q rs ++ (ended ∷ [])))
+  clean_after {l} s g =
+      (clean_gives limit s fit hn rs hr (write_all log q rs) (e + s.k - place_all e rs) (omega (arith, w.size, s.total)) w.is (omega (arith, w.inside, s.total))).sites
+      ∙ ap (λ (x : List Sited). given_all 0 before ++ (given_at l (place_all 0 before) xs ++ (x ++ (ended ∷ [])))) (sym (given_same e q rs g))
     where
       e : ℕ
       e = end_of 0 s.frames
@@ -60,10 +67,11 @@ module _ (n limit : ℕ) (before : List (List ℕ)) (xs tail log : List ℕ) (fi
           (written (bytes_of s.frames) tail e s.k (omega (arith, length_bytes 0 s.frames s.stands)) rs q g (omega (arith, s.total)))
 
   headed_after : (s : Headed n before xs tail log) → (q ≡ ends_at s) ⊎ (q ≡ ends_at s + padding (ends_at s))
-      → (reads_from (write_all log q rs) limit fresh).answers ≡ map whole before ++ (given headed xs ++ (map whole rs ++ (end_of_log ∷ [])))
+      → sited_from (write_all log q rs) limit fresh ≡ given_all 0 before ++ (given_at headed (place_all 0 before) xs ++ (given_all q rs ++ (ended ∷ [])))
   headed_after s g =
       (headed_gives limit s fit hn rs hr (write_all log q rs) (e + s.k - place_all e rs) (omega (arith, w.size, s.total)) (w.is ∙ sym (with_rest (bytes_of (frames_all e rs) ++ (zeros (e + s.k - place_all e rs) ++ tail))))
-      (omega (arith, w.inside, s.total))).answers
+      (omega (arith, w.inside, s.total))).sites
+      ∙ ap (λ (x : List Sited). given_all 0 before ++ (given_at headed (place_all 0 before) xs ++ (x ++ (ended ∷ [])))) (sym (given_same e q rs g))
     where
       e : ℕ
       e = ends_at s
@@ -108,10 +116,11 @@ module _ (n limit : ℕ) (before : List (List ℕ)) (xs tail log : List ℕ) (fi
 
   -- after the block of a header that has no type
   torn_after : (s : Torn n before xs tail log) → q ≡ beyond (end_of 0 s.frames) → blocks log ≡ n → (i : ℕ)
-      → (reads_from (write_all log q rs) limit fresh).answers ≡ map whole before ++ (given (torn i) xs ++ (map whole rs ++ (end_of_log ∷ [])))
+      → sited_from (write_all log q rs) limit fresh ≡ given_all 0 before ++ (given_at (torn i) (place_all 0 before) xs ++ (given_all q rs ++ (ended ∷ [])))
   torn_after s g size i =
       (torn_on_gives limit s fit hn (write_all log q rs) (b + j - place_all b rs) (omega (arith, w.size, beyond_inside limit fit hn size s)) (zeros m ++ new) (w.is ∙ regroup) rs hr
-      (ap (drop b) w.is ∙ drop_at front new b front_length) (omega (arith, w.inside, beyond_inside limit fit hn size s)) i).answers
+      (ap (drop b) w.is ∙ drop_at front new b front_length) (omega (arith, w.inside, beyond_inside limit fit hn size s)) i).sites
+      ∙ ap (λ (p : ℕ). given_all 0 before ++ (given_at (torn i) (place_all 0 before) xs ++ (given_all p rs ++ (ended ∷ [])))) (sym g)
     where
       e : ℕ
       e = end_of 0 s.frames
@@ -176,10 +185,10 @@ module _ (n limit : ℕ) (before : List (List ℕ)) (xs tail log : List ℕ) (fi
 covered-after : (n limit : ℕ) (before : List (List ℕ)) (xs tail log : List ℕ) → Fits limit before xs → 0 < n → length tail < 32768
     → (ys : List ℕ) (rs : List (List ℕ)) → Each (λ zs. length zs ≤ limit) (ys ∷ rs) → (q : ℕ) → place_all q (ys ∷ rs) ≤ n * 32768
     → (s : Torn n before xs tail log) → q ≡ end_of 0 s.frames + padding (end_of 0 s.frames) → blocks log ≡ n
-    → (reads_from (write_all log q (ys ∷ rs)) limit fresh).answers ≡ map whole before ++ (map whole (ys ∷ rs) ++ (end_of_log ∷ []))
-unfolding given covered
+    → sited_from (write_all log q (ys ∷ rs)) limit fresh ≡ given_all 0 before ++ (given_all q (ys ∷ rs) ++ (ended ∷ []))
+unfolding given_at covered
 covered-after n limit before xs tail log fit hn ht ys rs hr q room s g size =
-    ap (λ (t : List ℕ). (reads_from t limit fresh).answers) same
+    ap (λ (t : List ℕ). sited_from t limit fresh) same
     ∙ clean_after n limit before xs tail plain_log fit hn ht (ys ∷ rs) hr q room plainly (inr g)
   where
     e : ℕ
@@ -263,36 +272,38 @@ covered-after n limit before xs tail log fit hn ht ys rs hr q room s g size =
 -- what is to be shown: `limit` is that of the reading after which the writer resumes, `again` that of the reading after the writing
 abbrev ReadBack : ℕ → ℕ → ℕ → List (List ℕ) → List ℕ → List ℕ → List (List ℕ) → Left → Type 0
 ReadBack n limit again before xs log rs l =
-    (reads_from (write_all log (resume log limit) rs) again fresh).answers ≡ map whole before ++ (given_after n l xs rs ++ (map whole rs ++ (end_of_log ∷ [])))
+    sited_from (write_all log (resume log limit) rs) again fresh
+    ≡ given_all 0 before ++ (given_at_after n l (place_all 0 before) xs rs ++ (given_all (resume log limit) rs ++ (ended ∷ [])))
 
 module _ (n limit again : ℕ) (before : List (List ℕ)) (xs tail log : List ℕ) (fit : Fits limit before xs) (fits : Fits again before xs)
     (hn : 0 < n) (ht : length tail < 32768) (size : blocks log ≡ n)
     (rs : List (List ℕ)) (hr : Each (λ ys. length ys ≤ again) rs) (room : place_all (resume log limit) rs ≤ n * 32768) where
   -- it is what is given, but where that is covered
   uncovered : (l : Left) → covered n l rs ≡ false
-      → (reads_from (write_all log (resume log limit) rs) again fresh).answers ≡ map whole before ++ (given l xs ++ (map whole rs ++ (end_of_log ∷ [])))
+      → sited_from (write_all log (resume log limit) rs) again fresh
+      ≡ given_all 0 before ++ (given_at l (place_all 0 before) xs ++ (given_all (resume log limit) rs ++ (ended ∷ [])))
       → ReadBack n limit again before xs log rs l
-  unfolding given_after
-  uncovered l e g = g ∙ ap (λ (b : Bool). map whole before ++ (cond b [] (given l xs) ++ (map whole rs ++ (end_of_log ∷ [])))) (sym e)
+  unfolding given_at_after
+  uncovered l e g =
+      g ∙ ap (λ (b : Bool). given_all 0 before ++ (cond b [] (given_at l (place_all 0 before) xs) ++ (given_all (resume log limit) rs ++ (ended ∷ [])))) (sym e)
 
   after_clean : {l : Left} → Clean n before xs tail log l → ReadBack n limit again before xs log rs l
   unfolding resume
   after_clean {l} s =
       uncovered l (s.plain rs)
-      (clean_after n again before xs tail log fits hn ht rs hr (resume log limit) room s ((clean_read limit fit hn size s).left (finished_all before l xs [])))
+      (clean_after n again before xs tail log fits hn ht rs hr (resume log limit) room s (clean_read limit fit hn size s).left)
 
   after_headed : Headed n before xs tail log → ReadBack n limit again before xs log rs headed
   unfolding resume covered
   after_headed s =
       uncovered headed refl
-      (headed_after n again before xs tail log fits hn ht rs hr (resume log limit) room s ((headed_read limit fit hn size s).left (finished_all before headed xs [])))
+      (headed_after n again before xs tail log fits hn ht rs hr (resume log limit) room s (headed_read limit fit hn size s).left)
 
 torn_resume : (n limit : ℕ) (before : List (List ℕ)) (xs tail log : List ℕ) (fit : Fits limit before xs) (hn : 0 < n) (size : blocks log ≡ n) (s : Torn n before xs tail log)
     → resume log limit ≡ torn_place limit fit hn size s
 unfolding resume
 torn_resume n limit before xs tail log fit hn size s =
     (torn_read limit fit hn size s (end_of 0 s.frames + padding (end_of 0 s.frames))).left
-    (finished_all before (torn (end_of 0 s.frames + padding (end_of 0 s.frames))) xs [])
 
 module _ (n limit again : ℕ) (before : List (List ℕ)) (xs tail log : List ℕ) (fit : Fits limit before xs) (fits : Fits again before xs)
     (hn : 0 < n) (ht : length tail < 32768) (size : blocks log ≡ n) (s : Torn n before xs tail log) where
@@ -305,12 +316,13 @@ module _ (n limit again : ℕ) (before : List (List ℕ)) (xs tail log : List �
   resumes_at b e = torn_resume n limit before xs tail log fit hn size s ∙ ap (λ (x : Bool). cond x at (beyond (end_of 0 s.frames))) e
 
   after_torn : (rs : List (List ℕ)) → Each (λ ys. length ys ≤ again) rs → place_all (resume log limit) rs ≤ n * 32768 → ReadBack n limit again before xs log rs (torn at)
-  unfolding write_all given_after covered
-  after_torn [] hr room = (torn_read again fits hn size s at).answers
+  unfolding write_all given_at_after covered given_all
+  after_torn [] hr room = (torn_read again fits hn size s at).sites
   after_torn (ys ∷ rs) hr room = go (eqb (suc (at / 32768)) n) refl
     where
       go : (b : Bool) → eqb (suc (at / 32768)) n ≡ b
-          → (reads_from (write_all log (resume log limit) (ys ∷ rs)) again fresh).answers ≡ map whole before ++ (cond b [] (given (torn at) xs) ++ (map whole (ys ∷ rs) ++ (end_of_log ∷ [])))
+          → sited_from (write_all log (resume log limit) (ys ∷ rs)) again fresh
+          ≡ given_all 0 before ++ (cond b [] (given_at (torn at) (place_all 0 before) xs) ++ (given_all (resume log limit) (ys ∷ rs) ++ (ended ∷ [])))
       go true e = covered-after n again before xs tail log fits hn ht ys rs hr (resume log limit) room s (resumes_at true e) size
       go false e = torn_after n again before xs tail log fits hn ht (ys ∷ rs) hr (resume log limit) room s (resumes_at false e) size at
 
@@ -323,8 +335,29 @@ after_state n limit again before xs tail log fit fits hn ht size l (is_headed s 
 after_state n limit again before xs tail log fit fits hn ht size l (is_torn s e) rs hr room =
     subst (ReadBack n limit again before xs log rs) (sym e) (after_torn n limit again before xs tail log fit fits hn ht size s rs hr room)
 
+-- with the places of the first headers
+pub sited_written : (n limit again c : ℕ) (before : List (List ℕ)) (xs tail : List ℕ) (after : List (List ℕ)) → Cutting n limit c before xs tail
+    → place_all (resume (cut_log n before xs c ++ tail) limit) after ≤ n * 32768
+    → Each (λ ys. length ys ≤ again) before → length xs ≤ again → Each (λ ys. length ys ≤ again) after
+    → ReadBack n limit again before xs (cut_log n before xs c ++ tail) after (left c (frames_of (place_all 0 before) xs))
+sited_written n limit again c before xs tail after h room hb hx hr =
+    after_state n limit again before xs tail (cut_log n before xs c ++ tail) (h.limits, h.limit_next) (hb, hx) h.some_blocks h.short_tail (cut_blocks n limit c before xs tail h)
+    (left c (frames_of (place_all 0 before) xs)) (state n limit c before xs tail h) after hr room
+
+unsited_after : (n : ℕ) (l : Left) (p : ℕ) (xs : List ℕ) (rs : List (List ℕ)) → map unsited (given_at_after n l p xs rs) ≡ given_after n l xs rs
+unfolding given_at_after given_after
+unsited_after n l p xs rs = go (covered n l rs)
+  where
+    go : (b : Bool) → map unsited (cond b [] (given_at l p xs)) ≡ cond b [] (given l xs)
+    go true = refl
+    go false = unsited_at l p xs
+
 pub cut_written : CutWritten
 unfolding read_all
 cut_written n limit again c before xs tail after h room hb hx hr =
-    after_state n limit again before xs tail (cut_log n before xs c ++ tail) (h.limits, h.limit_next) (hb, hx) h.some_blocks h.short_tail (cut_blocks n limit c before xs tail h)
-    (left c (frames_of (place_all 0 before) xs)) (state n limit c before xs tail h) after hr room
+    let log = cut_log n before xs c ++ tail in
+    let l = left c (frames_of (place_all 0 before) xs) in
+    sym (sited_forgets (write_all log (resume log limit) after) again fresh)
+    ∙ ap (map unsited) (sited_written n limit again c before xs tail after h room hb hx hr)
+    ∙ unsited_parts before (given_at_after n l (place_all 0 before) xs after) (resume log limit) after
+    ∙ ap (λ (a : List Answer). map whole before ++ (a ++ (map whole after ++ (end_of_log ∷ [])))) (unsited_after n l (place_all 0 before) xs after)

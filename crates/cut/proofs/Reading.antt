@@ -1,6 +1,6 @@
 -- Reading a cut log, with or without records written after the cut.
 -- Assumes nothing.
-use mathlib.Core.Path.{◌≡◌, refl, sym, ap, subst, ◌∙◌}
+use mathlib.Core.Path.{◌≡◌, refl, sym, ap, ap₂, subst, ◌∙◌}
 use mathlib.Core.Bool.{true, cond}
 use mathlib.Core.List.{List, [], ◌∷◌, ◌++◌, map}
 use Prim.Native.Nat.{ℕ, suc, ◌+◌, ◌*◌, ◌-◌, ◌/◌, ◌≤◌, ◌<◌}
@@ -12,14 +12,17 @@ use Rattle.slices.specs.Bytes.{zeros}
 use Rattle.frame.specs.Frame.{type_number}
 use Rattle.frame.specs.Block.{padding, blocks}
 use Rattle.frame.specs.declared.Corruption.TheVariants.{WrongChecksum as wrong_checksum, UnknownType as unknown_type}
+use Rattle.frame.specs.declared.Reader.{Reader}
 use Rattle.frame.specs.Reader.{fresh, place, read_frame}
 use Rattle.frame.proofs.Headers.{header}
 use Rattle.frame.proofs.Step.{start_fits, drop-zeros}
-use Rattle.recordlog.specs.Write.{Frame, frames_of, bytes_of}
+use Rattle.recordlog.specs.Write.{Frame, frames_of, place_after, bytes_of}
 use Rattle.recordlog.specs.Laid.{place_all}
 use Rattle.recordlog.specs.Claims.{read_all, Each}
-use Rattle.recordlog.specs.Read.{Answer, whole, corruption, end_of_log, reads_from}
-use Rattle.recordlog.proofs.Sees.{corrupted, assemble, Sees, Any, finished, Gives, reads_from_sees}
+use Rattle.recordlog.specs.Read.{Answer, whole, end_of_log, idle, reads_from}
+use Rattle.recordlog.proofs.Sees.{Event, corrupted, Sees, Any, finished, reads_from_sees, fresh-arranged}
+use Rattle.recordlog.proofs.Sited.{Sited, lost, ended, unsited, sited_from, sited_forgets, assemble, sited_sees}
+use Rattle.recordlog.proofs.SitedRecords.{given_all}
 use Rattle.recordlog.proofs.Frames.{end_of, end_ge, frames_all, laid_all, end_all}
 use Rattle.recordlog.proofs.Seen.{event, behind-padding, sees_frames, sees_rest, rest_there}
 use Rattle.recordlog.proofs.Back.{fresh_at, Near, near}
@@ -27,7 +30,43 @@ use Rattle.cut.specs.Cut.{Left, complete, headed, nothing, torn, left}
 use Rattle.cut.specs.Claims.{cut_log, given, cut_answers, Cutting, CutRead}
 use Rattle.cut.proofs.See.{beyond, spoilt_at, behind_headed, sees_headed, sees_torn, sees_torn_on, torn_left}
 use Rattle.cut.proofs.Dropped.{restarts_bad, restarts_records, puts-records}
-use Rattle.cut.proofs.State.{Fits, Clean, Headed, Torn, State, is_clean, is_headed, is_torn, log_size, state}
+use Rattle.cut.proofs.State.{given_at, Fits, Clean, Headed, Torn, State, is_clean, is_headed, is_torn, log_size, state}
+
+-- ---- without the places
+
+unsited-append : (xs ys : List Sited) → map unsited (xs ++ ys) ≡ map unsited xs ++ map unsited ys
+unsited-append [] ys = refl
+unsited-append (x ∷ xs) ys = ap (λ (s : List Answer). unsited x ∷ s) (unsited-append xs ys)
+
+unsited_all : (p : ℕ) (rs : List (List ℕ)) → map unsited (given_all p rs) ≡ map whole rs
+unfolding given_all unsited
+unsited_all p [] = refl
+unsited_all p (xs ∷ rs) = ap (λ (s : List Answer). whole xs ∷ s) (unsited_all (place_after p xs) rs)
+
+pub unsited_at : (l : Left) (p : ℕ) (xs : List ℕ) → map unsited (given_at l p xs) ≡ given l xs
+unfolding given_at given unsited
+unsited_at complete p xs = refl
+unsited_at headed p xs = refl
+unsited_at nothing p xs = refl
+unsited_at (torn s) p xs = refl
+
+-- records, then some answers, records again
+pub unsited_parts : (before : List (List ℕ)) (s : List Sited) (q : ℕ) (rs : List (List ℕ))
+    → map unsited (given_all 0 before ++ (s ++ (given_all q rs ++ (ended ∷ [])))) ≡ map whole before ++ (map unsited s ++ (map whole rs ++ (end_of_log ∷ [])))
+unfolding unsited
+unsited_parts before s q rs =
+    unsited-append (given_all 0 before) (s ++ (given_all q rs ++ (ended ∷ [])))
+    ∙ ap₂ (λ (a b : List Answer). a ++ b) (unsited_all 0 before)
+    (unsited-append s (given_all q rs ++ (ended ∷ []))
+    ∙ ap (λ (a : List Answer). map unsited s ++ a)
+    (unsited-append (given_all q rs) (ended ∷ []) ∙ ap (λ (a : List Answer). a ++ (end_of_log ∷ [])) (unsited_all q rs)))
+
+pub unsited_given : (before : List (List ℕ)) (l : Left) (xs : List ℕ) (q : ℕ) (rs : List (List ℕ))
+    → map unsited (given_all 0 before ++ (given_at l (place_all 0 before) xs ++ (given_all q rs ++ (ended ∷ []))))
+    ≡ map whole before ++ (given l xs ++ (map whole rs ++ (end_of_log ∷ [])))
+unsited_given before l xs q rs =
+    unsited_parts before (given_at l (place_all 0 before) xs) q rs
+    ∙ ap (λ (a : List Answer). map whole before ++ (a ++ (map whole rs ++ (end_of_log ∷ [])))) (unsited_at l (place_all 0 before) xs)
 
 -- ---- the answers come to the end of the log
 
@@ -43,12 +82,32 @@ finished_given headed xs s = refl
 finished_given nothing xs s = refl
 finished_given (torn i) xs s = refl
 
-pub finished_all : (before : List (List ℕ)) (l : Left) (xs : List ℕ) (rs : List (List ℕ))
-    → finished (map whole before ++ (given l xs ++ (map whole rs ++ (end_of_log ∷ [])))) ≡ true
+finished_all : (before : List (List ℕ)) (l : Left) (xs : List ℕ) (q : ℕ) (rs : List (List ℕ))
+    → finished (map unsited (given_all 0 before ++ (given_at l (place_all 0 before) xs ++ (given_all q rs ++ (ended ∷ []))))) ≡ true
 unfolding finished
-finished_all before l xs rs =
-    finished_records before (given l xs ++ (map whole rs ++ (end_of_log ∷ [])))
+finished_all before l xs q rs =
+    ap finished (unsited_given before l xs q rs)
+    ∙ finished_records before (given l xs ++ (map whole rs ++ (end_of_log ∷ [])))
     ∙ finished_given l xs (map whole rs ++ (end_of_log ∷ [])) ∙ finished_records rs (end_of_log ∷ [])
+
+-- the reads from the fresh reader on give the records before, what is left of the record xs, and the records rs, which were written from q on; at the end of the log
+-- they leave a reader of which Z holds
+pub record GivesAt (Z : Reader → Type 0) (log : List ℕ) (limit : ℕ) (before : List (List ℕ)) (l : Left) (xs : List ℕ) (q : ℕ) (rs : List (List ℕ)) : Type 0 where
+  pub sites : sited_from log limit fresh ≡ given_all 0 before ++ (given_at l (place_all 0 before) xs ++ (given_all q rs ++ (ended ∷ [])))
+  pub left : Z (reads_from log limit fresh).reader
+
+gives_at : {Z : Reader → Type 0} (log : List ℕ) (limit : ℕ) (before : List (List ℕ)) (l : Left) (xs : List ℕ) (q : ℕ) (rs : List (List ℕ)) {es : List Event} → 0 < blocks log
+    → Sees log Z fresh es → assemble limit es idle 0 ≡ given_all 0 before ++ (given_at l (place_all 0 before) xs ++ (given_all q rs ++ (ended ∷ [])))
+    → GivesAt Z log limit before l xs q rs
+gives_at log limit before l xs q rs h s e =
+    let g = reads_from_sees log limit h s in
+    record {
+      sites = there;
+      left = g.left (ap finished (sym g.answers ∙ sym (sited_forgets log limit fresh) ∙ ap (map unsited) there) ∙ finished_all before l xs q rs);
+    }
+  where
+    there : sited_from log limit fresh ≡ given_all 0 before ++ (given_at l (place_all 0 before) xs ++ (given_all q rs ++ (ended ∷ [])))
+    there = sited_sees log limit (fresh-arranged log h) s ∙ e
 
 -- ---- frames, zeros
 
@@ -73,12 +132,11 @@ module _ {n : ℕ} (limit : ℕ) {before : List (List ℕ)} {xs tail log₀ : Li
       there : drop e log ≡ bytes_of gs ++ (zeros k ++ tail)
       there = rest_there log s.frames 0 (bytes_of gs ++ (zeros k ++ tail)) s.stands is
 
-  pub clean_gives : Gives (Near (place_all (end_of 0 s.frames) rs)) (map whole before ++ (given l xs ++ (map whole rs ++ (end_of_log ∷ [])))) (reads_from log limit fresh)
+  pub clean_gives : GivesAt (Near (place_all (end_of 0 s.frames) rs)) log limit before l xs (end_of 0 s.frames) rs
   clean_gives =
-      subst (λ (x : List Answer). Gives (Near (place_all (end_of 0 s.frames) rs)) x (reads_from log limit fresh))
+      gives_at log limit before l xs (end_of 0 s.frames) rs (omega arith) clean_sees
       (s.puts limit fit (map event (frames_all (end_of 0 s.frames) rs)) (restarts_records limit (end_of 0 s.frames) rs)
-      ∙ ap (λ (x : List Answer). map whole before ++ (given l xs ++ x)) (puts-records limit (end_of 0 s.frames) rs hr))
-      (reads_from_sees log limit (omega arith) clean_sees)
+      ∙ ap (λ (x : List Sited). given_all 0 before ++ (given_at l (place_all 0 before) xs ++ x)) (puts-records limit (end_of 0 s.frames) rs hr))
 
 -- ---- frames, a whole header with other data, zeros
 
@@ -121,13 +179,12 @@ module _ {n : ℕ} (limit : ℕ) {before : List (List ℕ)} {xs tail log₀ : Li
       far : q ≤ blocks log * 32768
       far = omega (arith, ends, end_ge q gs)
 
-  pub headed_gives : Gives (Near (place_all (ends_at s) rs)) (map whole before ++ (given headed xs ++ (map whole rs ++ (end_of_log ∷ [])))) (reads_from log limit fresh)
-  unfolding given
+  pub headed_gives : GivesAt (Near (place_all (ends_at s) rs)) log limit before headed xs (ends_at s) rs
+  unfolding given_at
   headed_gives =
-      subst (λ (x : List Answer). Gives (Near (place_all (ends_at s) rs)) x (reads_from log limit fresh))
+      gives_at log limit before headed xs (ends_at s) rs (omega arith) headed_sees
       (s.puts limit fit (corrupted wrong_checksum ∷ map event (frames_all (ends_at s) rs)) (restarts_bad limit wrong_checksum (map event (frames_all (ends_at s) rs)))
-      ∙ ap (λ (x : List Answer). map whole before ++ x) (unfold assemble in ap (λ (x : List Answer). corruption wrong_checksum ∷ x) (puts-records limit (ends_at s) rs hr)))
-      (reads_from_sees log limit (omega arith) headed_sees)
+      ∙ ap (λ (x : List Sited). given_all 0 before ++ x) (unfold assemble in ap (λ (x : List Sited). lost wrong_checksum ∷ x) (puts-records limit (ends_at s) rs hr)))
 
 -- ---- frames, a part of a header, zeros
 
@@ -150,12 +207,11 @@ module _ {n : ℕ} (limit : ℕ) {before : List (List ℕ)} {xs tail log₀ : Li
       e = end_of 0 s.frames
 
   pub torn_gives : drop (beyond (end_of 0 s.frames)) log ≡ zeros k ++ tail → beyond (end_of 0 s.frames) + k ≡ n * 32768 → (i : ℕ)
-      → Gives (λ r. place r ≡ place (read_frame log (spoilt_at (end_of 0 s.frames))).reader) (map whole before ++ (given (torn i) xs ++ (end_of_log ∷ []))) (reads_from log limit fresh)
-  unfolding given
+      → GivesAt (λ r. place r ≡ place (read_frame log (spoilt_at (end_of 0 s.frames))).reader) log limit before (torn i) xs (beyond (end_of 0 s.frames)) []
+  unfolding given_at given_all
   torn_gives d w i =
-      subst (λ (x : List Answer). Gives (λ r. place r ≡ place (read_frame log (spoilt_at (end_of 0 s.frames))).reader) x (reads_from log limit fresh))
+      gives_at log limit before (torn i) xs (beyond (end_of 0 s.frames)) [] (omega arith) (torn_sees d w)
       (s.puts limit fit (corrupted unknown_type ∷ []) (restarts_bad limit unknown_type []) ∙ (unfold assemble in refl))
-      (reads_from_sees log limit (omega arith) (torn_sees d w))
 
   -- records after its block
   torn_on_sees : (rs : List (List ℕ)) → drop (beyond (end_of 0 s.frames)) log ≡ bytes_of (frames_all (beyond (end_of 0 s.frames)) rs) ++ (zeros k ++ tail)
@@ -173,13 +229,12 @@ module _ {n : ℕ} (limit : ℕ) {before : List (List ℕ)} {xs tail log₀ : Li
   pub torn_on_gives : (rs : List (List ℕ)) → Each (λ ys. length ys ≤ limit) rs
       → drop (beyond (end_of 0 s.frames)) log ≡ bytes_of (frames_all (beyond (end_of 0 s.frames)) rs) ++ (zeros k ++ tail)
       → place_all (beyond (end_of 0 s.frames)) rs + k ≡ n * 32768 → (i : ℕ)
-      → Gives Any (map whole before ++ (given (torn i) xs ++ (map whole rs ++ (end_of_log ∷ [])))) (reads_from log limit fresh)
-  unfolding given
+      → GivesAt Any log limit before (torn i) xs (beyond (end_of 0 s.frames)) rs
+  unfolding given_at
   torn_on_gives rs hr d w i =
-      subst (λ (x : List Answer). Gives Any x (reads_from log limit fresh))
+      gives_at log limit before (torn i) xs b rs (omega arith) (torn_on_sees rs d w)
       (s.puts limit fit (corrupted unknown_type ∷ map event (frames_all b rs)) (restarts_bad limit unknown_type (map event (frames_all b rs)))
-      ∙ ap (λ (x : List Answer). map whole before ++ x) (unfold assemble in ap (λ (x : List Answer). corruption unknown_type ∷ x) (puts-records limit b rs hr)))
-      (reads_from_sees log limit (omega arith) (torn_on_sees rs d w))
+      ∙ ap (λ (x : List Sited). given_all 0 before ++ x) (unfold assemble in ap (λ (x : List Sited). lost unknown_type ∷ x) (puts-records limit b rs hr)))
     where
       b : ℕ
       b = beyond (end_of 0 s.frames)
@@ -188,12 +243,12 @@ module _ {n : ℕ} (limit : ℕ) {before : List (List ℕ)} {xs tail log₀ : Li
 
 module _ {n : ℕ} (limit : ℕ) {before : List (List ℕ)} {xs tail log : List ℕ} (fit : Fits limit before xs) (hn : 0 < n) (size : blocks log ≡ n) where
   pub clean_read : {l : Left} (s : Clean n before xs tail log l)
-      → Gives (Near (end_of 0 s.frames)) (map whole before ++ (given l xs ++ (end_of_log ∷ []))) (reads_from log limit fresh)
+      → GivesAt (Near (end_of 0 s.frames)) log limit before l xs (end_of 0 s.frames) []
   unfolding frames_all bytes_of place_all
   clean_read s = clean_gives limit s fit hn [] tt log s.k size s.is s.total
 
   pub headed_read : (s : Headed n before xs tail log)
-      → Gives (Near (ends_at s)) (map whole before ++ (given headed xs ++ (end_of_log ∷ []))) (reads_from log limit fresh)
+      → GivesAt (Near (ends_at s)) log limit before headed xs (ends_at s) []
   unfolding frames_all bytes_of place_all
   headed_read s = headed_gives limit s fit hn [] tt log s.k size s.is s.total
 
@@ -231,14 +286,14 @@ module _ {n : ℕ} (limit : ℕ) {before : List (List ℕ)} {xs tail log : List 
     unfoldable pub torn_place : ℕ
     torn_place = cond (eqb (suc ((end_of 0 s.frames + padding (end_of 0 s.frames)) / 32768)) n) (end_of 0 s.frames + padding (end_of 0 s.frames)) (beyond (end_of 0 s.frames))
 
-    pub torn_read : (i : ℕ) → Gives (λ r. place r ≡ torn_place) (map whole before ++ (given (torn i) xs ++ (end_of_log ∷ []))) (reads_from log limit fresh)
+    pub torn_read : (i : ℕ) → GivesAt (λ r. place r ≡ torn_place) log limit before (torn i) xs (beyond (end_of 0 s.frames)) []
     unfolding torn_place
     torn_read i =
         let g = torn_gives limit s fit hn log (n * 32768 - b) size (zeros s.k ++ tail) s.is torn_beyond (omega (arith, beyond_inside)) i in
         record {
-          answers = g.answers;
-          left = λ f.
-              g.left f ∙ torn_left log (end_of 0 s.frames) (n * 32768 - b) tail torn_beyond (omega (arith, beyond_inside))
+          sites = g.sites;
+          left =
+              g.left ∙ torn_left log (end_of 0 s.frames) (n * 32768 - b) tail torn_beyond (omega (arith, beyond_inside))
               ∙ ap (λ (m : ℕ). cond (eqb (suc ((end_of 0 s.frames + padding (end_of 0 s.frames)) / 32768)) m) (end_of 0 s.frames + padding (end_of 0 s.frames)) b) size;
         }
       where
@@ -249,16 +304,27 @@ pub cut_blocks : (n limit c : ℕ) (before : List (List ℕ)) (xs tail : List �
 cut_blocks n limit c before xs tail h = omega (arith, log_size n limit c before xs tail h, h.short_tail)
 
 -- the answers, in each case
-cut_answers_lem : (n limit c : ℕ) (before : List (List ℕ)) (xs tail : List ℕ) → Cutting n limit c before xs tail → (l : Left)
+sites_lem : (n limit c : ℕ) (before : List (List ℕ)) (xs tail : List ℕ) → Cutting n limit c before xs tail → (l : Left)
     → State n before xs tail (cut_log n before xs c ++ tail) l
-    → (reads_from (cut_log n before xs c ++ tail) limit fresh).answers ≡ map whole before ++ (given l xs ++ (end_of_log ∷ []))
-cut_answers_lem n limit c before xs tail h l (is_clean s) = (clean_read limit (h.limits, h.limit_next) h.some_blocks (cut_blocks n limit c before xs tail h) s).answers
-cut_answers_lem n limit c before xs tail h l (is_headed s e) =
-    (headed_read limit (h.limits, h.limit_next) h.some_blocks (cut_blocks n limit c before xs tail h) s).answers ∙ ap (λ (m : Left). map whole before ++ (given m xs ++ (end_of_log ∷ []))) (sym e)
-cut_answers_lem n limit c before xs tail h l (is_torn s e) =
-    (torn_read limit (h.limits, h.limit_next) h.some_blocks (cut_blocks n limit c before xs tail h) s (end_of 0 s.frames + padding (end_of 0 s.frames))).answers
-    ∙ ap (λ (m : Left). map whole before ++ (given m xs ++ (end_of_log ∷ []))) (sym e)
+    → sited_from (cut_log n before xs c ++ tail) limit fresh ≡ given_all 0 before ++ (given_at l (place_all 0 before) xs ++ (ended ∷ []))
+unfolding given_all
+sites_lem n limit c before xs tail h l (is_clean s) = (clean_read limit (h.limits, h.limit_next) h.some_blocks (cut_blocks n limit c before xs tail h) s).sites
+sites_lem n limit c before xs tail h l (is_headed s e) =
+    (headed_read limit (h.limits, h.limit_next) h.some_blocks (cut_blocks n limit c before xs tail h) s).sites
+    ∙ ap (λ (m : Left). given_all 0 before ++ (given_at m (place_all 0 before) xs ++ (ended ∷ []))) (sym e)
+sites_lem n limit c before xs tail h l (is_torn s e) =
+    (torn_read limit (h.limits, h.limit_next) h.some_blocks (cut_blocks n limit c before xs tail h) s (end_of 0 s.frames + padding (end_of 0 s.frames))).sites
+    ∙ ap (λ (m : Left). given_all 0 before ++ (given_at m (place_all 0 before) xs ++ (ended ∷ []))) (sym e)
+
+-- with the places of the first headers
+pub cut_sited : (n limit c : ℕ) (before : List (List ℕ)) (xs tail : List ℕ) → Cutting n limit c before xs tail
+    → sited_from (cut_log n before xs c ++ tail) limit fresh
+    ≡ given_all 0 before ++ (given_at (left c (frames_of (place_all 0 before) xs)) (place_all 0 before) xs ++ (ended ∷ []))
+cut_sited n limit c before xs tail h = sites_lem n limit c before xs tail h (left c (frames_of (place_all 0 before) xs)) (state n limit c before xs tail h)
 
 pub cut_read : CutRead
-unfolding read_all cut_answers
-cut_read n limit c before xs tail h = cut_answers_lem n limit c before xs tail h (left c (frames_of (place_all 0 before) xs)) (state n limit c before xs tail h)
+unfolding read_all cut_answers given_all
+cut_read n limit c before xs tail h =
+    sym (sited_forgets (cut_log n before xs c ++ tail) limit fresh)
+    ∙ ap (map unsited) (cut_sited n limit c before xs tail h)
+    ∙ unsited_given before (left c (frames_of (place_all 0 before) xs)) xs 0 []

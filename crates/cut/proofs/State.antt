@@ -18,19 +18,29 @@ use Rattle.frame.proofs.Headers.{header, le-sum}
 use Rattle.recordlog.specs.Write.{Frame, frames_of, bytes_of, place_after}
 use Rattle.recordlog.specs.Laid.{place_all, laid}
 use Rattle.recordlog.specs.Claims.{Each}
-use Rattle.recordlog.specs.Read.{whole, idle}
-use Rattle.recordlog.proofs.Sees.{Event, assemble}
+use Rattle.recordlog.specs.Read.{idle}
+use Rattle.recordlog.specs.Began.{header_place}
+use Rattle.frame.specs.declared.Corruption.TheVariants.{WrongChecksum as wrong_checksum, UnknownType as unknown_type}
+use Rattle.recordlog.proofs.Sees.{Event}
+use Rattle.recordlog.proofs.Sited.{Sited, given as given_whole, lost, assemble}
+use Rattle.recordlog.proofs.SitedRecords.{Restarts, given_all}
 use Rattle.recordlog.proofs.Frames.{Stands, Laid, after, end_of, end_append, laid-left, laid_right, laid-append, length_bytes, bytes_append, frames_all, laid_all, end_all, owned}
 use Rattle.recordlog.proofs.Seen.{event}
-use Rattle.recordlog.proofs.Assemble.{Restarts}
 use Rattle.recordlog.proofs.Back.{log_length}
 use Rattle.cut.specs.Cut.{Left, complete, headed, nothing, torn, left_when, left, covered}
-use Rattle.cut.specs.Claims.{cut_log, given, Cutting}
+use Rattle.cut.specs.Claims.{cut_log, Cutting}
 use Rattle.cut.proofs.Lists.{length_cut}
 use Rattle.recordlog.proofs.Append.{place-append}
 use Rattle.cut.proofs.Shape.{remains, Broken, Unbroken, Split, unbroken, broken, split_frames, cut_log_lem}
 use Rattle.cut.proofs.Torn.{part, cut_data, sum_bytes, headed_bytes, nothing_bytes, torn_bytes, part_length, part_type, part_some}
 use Rattle.cut.proofs.Dropped.{puts_whole, puts_broken}
+
+-- `given` with the place of the record's first header; the record is written at p
+unfoldable pub given_at : Left → ℕ → List ℕ → List Sited
+given_at complete p xs = given_whole (header_place p) xs ∷ []
+given_at headed p xs = lost wrong_checksum ∷ []
+given_at nothing p xs = []
+given_at (torn s) p xs = lost unknown_type ∷ []
 
 -- none of these is longer
 abbrev pub Fits : ℕ → List (List ℕ) → List ℕ → Type 0
@@ -44,7 +54,8 @@ pub record Clean (n : ℕ) (before : List (List ℕ)) (xs tail log : List ℕ) (
   pub is : log ≡ bytes_of frames ++ (zeros k ++ tail)
   pub total : end_of 0 frames + k ≡ n * 32768
   pub plain : (rs : List (List ℕ)) → covered n l rs ≡ false
-  pub puts : (limit : ℕ) → Fits limit before xs → (es : List Event) → Restarts limit es → assemble limit (map event frames ++ es) idle ≡ map whole before ++ (given l xs ++ assemble limit es idle)
+  pub puts : (limit : ℕ) → Fits limit before xs → (es : List Event) → Restarts limit es
+      → assemble limit (map event frames ++ es) idle 0 ≡ given_all 0 before ++ (given_at l (place_all 0 before) xs ++ assemble limit es idle 0)
 
 -- frames, a whole header with other data, zeros
 pub record Headed (n : ℕ) (before : List (List ℕ)) (xs tail log : List ℕ) : Type 0 where
@@ -59,7 +70,8 @@ pub record Headed (n : ℕ) (before : List (List ℕ)) (xs tail log : List ℕ) 
   pub told : crc32 (type_number at.kind ∷ datas) ≡ le sum → ⊥
   pub is : log ≡ bytes_of frames ++ (zeros (padding (end_of 0 frames)) ++ header sum (length datas) (type_number at.kind) (datas ++ (zeros k ++ tail)))
   pub total : end_of 0 frames + padding (end_of 0 frames) + 7 + length datas + k ≡ n * 32768
-  pub puts : (limit : ℕ) → Fits limit before xs → (es : List Event) → Restarts limit es → assemble limit (map event frames ++ es) idle ≡ map whole before ++ assemble limit es idle
+  pub puts : (limit : ℕ) → Fits limit before xs → (es : List Event) → Restarts limit es
+      → assemble limit (map event frames ++ es) idle 0 ≡ given_all 0 before ++ assemble limit es idle 0
 
 -- frames, seven bytes that are a part of a header, zeros
 pub record Torn (n : ℕ) (before : List (List ℕ)) (xs tail log : List ℕ) : Type 0 where
@@ -72,7 +84,8 @@ pub record Torn (n : ℕ) (before : List (List ℕ)) (xs tail log : List ℕ) : 
   pub untyped : get_or seven 6 0 ≡ 0
   pub is : log ≡ bytes_of frames ++ (zeros (padding (end_of 0 frames)) ++ (seven ++ (zeros k ++ tail)))
   pub total : end_of 0 frames + padding (end_of 0 frames) + 7 + k ≡ n * 32768
-  pub puts : (limit : ℕ) → Fits limit before xs → (es : List Event) → Restarts limit es → assemble limit (map event frames ++ es) idle ≡ map whole before ++ assemble limit es idle
+  pub puts : (limit : ℕ) → Fits limit before xs → (es : List Event) → Restarts limit es
+      → assemble limit (map event frames ++ es) idle 0 ≡ given_all 0 before ++ assemble limit es idle 0
 
 pub data State (n : ℕ) (before : List (List ℕ)) (xs tail log : List ℕ) (l : Left) : Type 0 where
   is_clean : Clean n before xs tail log l → State n before xs tail log l
@@ -92,7 +105,7 @@ module _ (n limit c : ℕ) (before : List (List ℕ)) (xs tail : List ℕ) (h : 
       )
 
   all_stored : Unbroken c (place_all 0 before) (frames_of (place_all 0 before) xs) → Clean n before xs tail (cut_log n before xs c ++ tail) complete
-  unfolding given covered
+  unfolding given_at covered
   all_stored u = record {
     frames = frames_all 0 before ++ frames_of (place_all 0 before) xs;
     k = n * 32768 - place_after (place_all 0 before) xs;
@@ -182,7 +195,8 @@ module _ (n limit c : ℕ) (before : List (List ℕ)) (xs tail : List ℕ) (h : 
         m : ℕ
         m = n * 32768 - place_after (place_all 0 before) xs
 
-    puts_it : (m : ℕ) → Fits m before xs → (es : List Event) → Restarts m es → assemble m (map event before_it ++ es) idle ≡ map whole before ++ assemble m es idle
+    puts_it : (m : ℕ) → Fits m before xs → (es : List Event) → Restarts m es
+        → assemble m (map event before_it ++ es) idle 0 ≡ given_all 0 before ++ assemble m es idle 0
     unfolding before_it
     puts_it m g es on = puts_broken m before xs es g.0 g.1 b.pre b.at b.post b.split on
 
@@ -207,7 +221,7 @@ module _ (n limit c : ℕ) (before : List (List ℕ)) (xs tail : List ℕ) (h : 
         size = length_cut (c - (b.at.start + 7)) b.at.content
 
     no_bytes : all_zero (take (c - b.at.start) (frame_bytes b.at.kind b.at.content)) ≡ true → Clean n before xs tail (cut_log n before xs c ++ tail) nothing
-    unfolding e given covered
+    unfolding e given_at covered
     no_bytes z = record {
       frames = before_it;
       k = padding e + (7 + length b.at.content + k);

@@ -11,7 +11,10 @@ use Rattle.slices.specs.Bytes.{zeros}
 use Rattle.slices.specs.Put.{put}
 use Rattle.slices.proofs.Put.{put_none, put_on, put-put, put_here, length_put}
 use Rattle.frame.specs.Block.{padding}
-use Rattle.frame.proofs.Step.{drop-zeros}
+use Rattle.frame.proofs.Step.{padding_none, start_fits, drop-zeros}
+use Rattle.recordlog.specs.Began.{header_place}
+use Rattle.recordlog.proofs.Sited.{given}
+use Rattle.recordlog.proofs.SitedRecords.{given_all}
 use Rattle.recordlog.specs.Write.{record_bytes, place_after, bytes_of}
 use Rattle.recordlog.specs.Laid.{place_all, records_bytes}
 use Rattle.recordlog.proofs.Frames.{frames_all, written_frames, length_record, length-written}
@@ -122,3 +125,16 @@ module _ (front tail : List ℕ) (e k : ℕ) (len : length front ≡ e) where
   written (ys ∷ rs) q (inr g) h =
       subst (λ (i : ℕ). Written front e k tail (ys ∷ rs) (write_all (front ++ (zeros k ++ tail)) i (ys ∷ rs))) (sym g)
       (written_padded ys rs (omega (arith, ap (λ (i : ℕ). place_all i (ys ∷ rs)) g)))
+
+-- their first headers stand where they would from the place itself
+header_same : (e : ℕ) → header_place (e + padding e) ≡ header_place e
+unfolding header_place
+header_same e = omega (arith, padding_none (e + padding e) (start_fits e))
+
+pub given_same : (e q : ℕ) (rs : List (List ℕ)) → (q ≡ e) ⊎ (q ≡ e + padding e) → given_all q rs ≡ given_all e rs
+unfolding given_all
+given_same e q rs (inl g) = ap (λ (i : ℕ). given_all i rs) g
+given_same e q [] (inr g) = refl
+given_same e q (ys ∷ rs) (inr g) =
+    ap (λ (i : ℕ). given_all i (ys ∷ rs)) g
+    ∙ ap₂ (λ (h p : ℕ). given h ys ∷ given_all p rs) (header_same e) (resumes_same e ys).1

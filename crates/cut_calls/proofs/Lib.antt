@@ -1,3 +1,4 @@
 pub mod PowerCut
 pub mod Since
 pub mod On
+pub mod Blocks

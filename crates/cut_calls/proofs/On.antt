@@ -16,22 +16,30 @@ use Rattle.record.specs.Fits.{WellFormed}
 use Rattle.queues.specs.Queues.{Queue, Capacities}
 use Rattle.calls.specs.State.{State}
 use Rattle.calls.specs.Calls.{call_of}
+use Rattle.calls.specs.Placed.{Placed, PlacedAnswer, placed_record, placed_end, placed_readings}
+use Rattle.calls.specs.PlacedList.{placed_of, placed_list}
+use Rattle.calls.proofs.Placed.{told_at, placed_readings_told}
+use Rattle.calls.proofs.PlacedRuns.{told_given}
 use Rattle.calls.specs.Reading.{ReadAnswer, gave_record, gave_end, answer_of, readings}
 use Rattle.calls.specs.Replay.{Outcome, left, and_then, replay_answers, replay_records, replay_of}
 use Rattle.calls.specs.Machine.{Listed, Machine, Fed, records_of, NoneLonger}
 use Rattle.calls.proofs.AnyLog.{resumes_in_log}
-use Rattle.calls.proofs.Arranged.{Arrangement, none_arranged, records-arranged}
+use Rattle.calls.proofs.Arranged.{Arrangement, bare_records, none_arranged, records-arranged}
 use Rattle.calls.proofs.Replaying.{replay_all, replay_corrupt, records-append}
 use Rattle.calls.proofs.Answers.{Formed, readings_same, records-given}
-use Rattle.calls.proofs.Follows.{encodings, map-append, Standing}
+use Rattle.calls.proofs.Follows.{encodings, map-append, bare_list, Owns, Standing}
 use Rattle.calls.proofs.Runs.{log_legal, each_limit}
 use Rattle.cut.specs.Cut.{Unfit, Left, complete, headed, nothing, torn, covered}
 use Rattle.cut.specs.Claims.{cut_log, given, write_all, given_after}
 use Rattle.cut.specs.Cut.{left as left_by}
-use Rattle.cut.proofs.After.{cut_written}
+use Rattle.cut.proofs.State.{given_at}
+use Rattle.cut.proofs.After.{given_at_after, sited_written, cut_written}
+use Rattle.recordlog.proofs.Sited.{ended, sited_from}
+use Rattle.recordlog.proofs.SitedRecords.{given_all}
+use Rattle.frame.specs.Reader.{fresh}
 use Rattle.cut_calls.specs.Claims.{cut_of, reopened, StatesSince, records_since, StatesAfterCalls, StatesPowerCutOn}
 use Rattle.cut_calls.specs.CutRecord.{cut_answered, kept_of, machine_from, answered_after}
-use Rattle.cut_calls.proofs.PowerCut.{answers_back, own, limits, formed, cutting, cut_is, cut_length, replaying_cut, known}
+use Rattle.cut_calls.proofs.PowerCut.{answers_back, own, limits, formed, placed_answered, told_cut, cutting, cut_is, cut_length, replaying_cut, known}
 use Rattle.cut_calls.proofs.Since.{Going, Gone, follows_on}
 
 -- ---- answers
@@ -45,36 +53,51 @@ answers_after n l r rs f = go (covered n l (map encode rs))
     go false = answers_back l r f
 
 -- records on both sides of nothing
-joined-records : (c : Capacities) (before rs : List Record) → replay_answers c [] (map gave_record before ++ (map gave_record rs ++ (gave_end ∷ []))) ≡ replay_records c [] (before ++ rs)
+joined-records : (c : Capacities) (before rs : List Placed) → replay_answers c [] (map placed_record before ++ (map placed_record rs ++ (placed_end ∷ []))) ≡ replay_records c [] (before ++ rs)
 joined-records c before rs =
     ap (replay_answers c [])
-    (sym (ap (λ (a : List ReadAnswer). a ++ (gave_end ∷ [])) (map-append gave_record before rs) ∙ append_assoc (map gave_record before) (map gave_record rs) (gave_end ∷ [])))
+    (sym (ap (λ (a : List PlacedAnswer). a ++ (placed_end ∷ [])) (map-append placed_record before rs) ∙ append_assoc (map placed_record before) (map placed_record rs) (placed_end ∷ [])))
     ∙ replay_all c [] (before ++ rs)
 
-replays_after : (c : Capacities) (n : ℕ) (before : List Record) (l : Left) (r : Record) (rs : List Record)
-    → replay_answers c [] (map gave_record before ++ (answered_after n l r rs ++ (map gave_record rs ++ (gave_end ∷ [])))) ≡ replay_records c [] (before ++ (kept_of l r ++ rs))
-unfolding answered_after cut_answered kept_of covered
-replays_after c n before complete r rs = joined-records c before (r ∷ rs)
-replays_after c n before headed r rs = replay_corrupt c [] before rs _
-replays_after c n before nothing r rs = joined-records c before rs
+-- with blocks: what is read between the records before the cut and those written after reopening
+unfoldable placed_after : ℕ → Left → Placed → List (List ℕ) → List PlacedAnswer
+placed_after n l r xs = cond (covered n l xs) [] (placed_answered l r)
+
+told_after : (n : ℕ) (l : Left) (p : ℕ) (w : Listed) (xs : List (List ℕ)) → w.frames ≡ frames_of p (encode w.written) → WellFormed w.written
+    → map told_at (given_at_after n l p (encode w.written) xs) ≡ placed_after n l (placed_of w) xs
+unfolding given_at_after placed_after
+told_after n l p w xs o f = go (covered n l xs)
+  where
+    go : (b : Bool) → map told_at (cond b [] (given_at l p (encode w.written))) ≡ cond b [] (placed_answered l (placed_of w))
+    go true = refl
+    go false = told_cut l p w o f
+
+replays_after : (c : Capacities) (n : ℕ) (before : List Placed) (l : Left) (r : Placed) (ls : List Listed)
+    → replay_answers c [] (map placed_record before ++ (placed_after n l r (encodings ls) ++ (map placed_record (placed_list ls) ++ (placed_end ∷ []))))
+    ≡ replay_records c [] (before ++ (kept_of l r ++ placed_list ls))
+unfolding placed_after placed_answered kept_of covered placed_list
+replays_after c n before complete r ls = joined-records c before (r ∷ placed_list ls)
+replays_after c n before headed r ls = replay_corrupt c [] before (placed_list ls) _
+replays_after c n before nothing r ls = joined-records c before (placed_list ls)
 replays_after c n before (torn s) r [] = replay_corrupt c [] before [] _
-replays_after c n before (torn s) r (q ∷ rs) = go (eqb (suc (s / 32768)) n)
+replays_after c n before (torn s) r (q ∷ ls) = go (eqb (suc (s / 32768)) n)
   where
     go : (b : Bool)
-        → replay_answers c [] (map gave_record before ++ (cond b [] (cut_answered (torn s) r) ++ (map gave_record (q ∷ rs) ++ (gave_end ∷ [])))) ≡ replay_records c [] (before ++ (q ∷ rs))
-    go true = joined-records c before (q ∷ rs)
-    go false = unfold cut_answered in replay_corrupt c [] before (q ∷ rs) _
+        → replay_answers c [] (map placed_record before ++ (cond b [] (placed_answered (torn s) r) ++ (map placed_record (placed_list (q ∷ ls)) ++ (placed_end ∷ []))))
+        ≡ replay_records c [] (before ++ placed_list (q ∷ ls))
+    go true = joined-records c before (placed_list (q ∷ ls))
+    go false = unfold placed_answered in replay_corrupt c [] before (placed_list (q ∷ ls)) _
 
-formed_kept : (before : List Record) (l : Left) (r : Record) → Formed before → WellFormed r → Formed (before ++ kept_of l r)
+formed_kept : (before : List Placed) (l : Left) (r : Placed) → Formed (bare_records before) → WellFormed r.written → Formed (bare_records (before ++ kept_of l r))
 unfolding kept_of
 formed_kept before complete r a b = behind before a
   where
-    behind : (rs : List Record) → Formed rs → Formed (rs ++ (r ∷ []))
+    behind : (rs : List Placed) → Formed (bare_records rs) → Formed (bare_records (rs ++ (r ∷ [])))
     behind [] w = (b, tt)
     behind (q ∷ rs) w = (w.0, behind rs w.1)
-formed_kept before headed r a b = subst Formed (sym (append-nil before)) a
-formed_kept before nothing r a b = subst Formed (sym (append-nil before)) a
-formed_kept before (torn s) r a b = subst Formed (sym (append-nil before)) a
+formed_kept before headed r a b = subst (λ (rs : List Placed). Formed (bare_records rs)) (sym (append-nil before)) a
+formed_kept before nothing r a b = subst (λ (rs : List Placed). Formed (bare_records rs)) (sym (append-nil before)) a
+formed_kept before (torn s) r a b = subst (λ (rs : List Placed). Formed (bare_records rs)) (sym (append-nil before)) a
 
 -- ---- the log after
 
@@ -94,19 +117,20 @@ module _ (s s' : State) (ls : List Listed) (l : Listed) (w : Standing s ls) (v :
   size : length (take c s'.log ++ drop c s.log) ≡ w.number * 32768 + length w.tail
   size = cut_length s s' ls l w v same c limit low high unfit none
 
-  replayed : replay_records m [] (records_of ls ++ kept_of (left_by c l.frames) l.written) ≡ left qs
+  replayed : replay_records m [] (placed_list ls ++ kept_of (left_by c l.frames) (placed_of l)) ≡ left qs
   replayed = sym (replaying_cut s s' ls l w v same c limit low high unfit none m) ∙ opened
 
   arr : Arrangement m qs
+  unfolding placed_of
   arr =
-      records-arranged m [] qs (records_of ls ++ kept_of (left_by c l.frames) l.written)
-      (formed_kept (records_of ls) (left_by c l.frames) l.written formed_parts.0 formed_parts.1) (none_arranged m) replayed
+      records-arranged m [] qs (placed_list ls ++ kept_of (left_by c l.frames) (placed_of l))
+      (formed_kept (placed_list ls) (left_by c l.frames) (placed_of l) (subst Formed (sym (bare_list ls)) formed_parts.0) formed_parts.1) (none_arranged m) replayed
 
   start : Machine
   start = record { records = []; queues = qs; place = resume (take c s'.log ++ drop c s.log) limit }
 
   starts : Gone cut q w.number m qs (reopened cut m qs limit) start
-  unfolding write_all place_all replay_records cut q start
+  unfolding write_all place_all replay_records placed_list cut q start
   starts = record {
     list = [];
     machine_is = refl;
@@ -117,6 +141,7 @@ module _ (s s' : State) (ls : List Listed) (l : Listed) (w : Standing s ls) (v :
       size = omega (arith, size, w.short);
       same_length = refl;
       formed = tt;
+      owns = tt;
       sound = refl;
       same_room = refl;
       replayed = refl;
@@ -170,15 +195,62 @@ module _ (s s' : State) (ls : List Listed) (l : Listed) (w : Standing s ls) (v :
         fits : Each (λ ys. length ys ≤ again) (encodings ls) × (length (encode l.written) ≤ again)
         fits = limits s s' ls l w v same c again low high unfit none₁
 
+    -- with blocks
+    placed_on : placed_readings s₂.log again
+        ≡ map placed_record (placed_list ls)
+        ++ (placed_after w.number (left_by c l.frames) (placed_of l) (encodings gone.list) ++ (map placed_record (placed_list gone.list) ++ (placed_end ∷ [])))
+    unfolding told_at cut q
+    placed_on =
+        placed_readings_told s₂.log again (log_legal s₂.log w.number (length w.tail) (g.same_length ∙ size) w.short w.some w.most)
+        ∙ ap (λ (log : List ℕ). map told_at (sited_from log again fresh)) g.log_is
+        ∙ ap (λ (log : List ℕ). map told_at (sited_from (write_all log (resume log limit) after) again fresh)) is
+        ∙ ap (map told_at)
+        (sited_written w.number limit again c (encodings ls) xs w.tail after (cutting s s' ls l w v same c limit low high unfit none)
+        (subst (λ (log : List ℕ). place_all (resume log limit) after ≤ w.number * 32768) is g.room)
+        fits.0 fits.1 (each_limit again gone.list (subst (NoneLonger again) records_are none₂)))
+        ∙ map-append told_at (given_all 0 (encodings ls)) (given_at_after w.number left_is p xs after ++ (given_all q₂ after ++ (ended ∷ [])))
+        ∙ ap₂ (λ (a b : List PlacedAnswer). a ++ b) (told_given 0 ls w.owns formed_parts.0)
+        (map-append told_at (given_at_after w.number left_is p xs after) (given_all q₂ after ++ (ended ∷ []))
+        ∙ ap₂ (λ (a b : List PlacedAnswer). a ++ b)
+        (told_after w.number left_is p l after (own s s' ls l w v same c limit low high unfit none) formed_parts.1
+        ∙ ap (λ (fs : List Frame). placed_after w.number (left_by c fs) (placed_of l) after) (sym (own s s' ls l w v same c limit low high unfit none)))
+        (map-append told_at (given_all q₂ after) (ended ∷ [])
+        ∙ ap (λ (a : List PlacedAnswer). a ++ (placed_end ∷ []))
+        (told_given q₂ gone.list (subst (λ (log : List ℕ). Owns (resume log limit) gone.list) is g.owns) g.formed)))
+      where
+        g : Going cut q w.number m qs s₂ gone.list
+        g = gone.going
+
+        xs : List ℕ
+        xs = encode l.written
+
+        after : List (List ℕ)
+        after = encodings gone.list
+
+        p : ℕ
+        p = place_all 0 (encodings ls)
+
+        q₂ : ℕ
+        q₂ = resume (cut_log w.number (encodings ls) (encode l.written) c ++ w.tail) limit
+
+        left_is : Left
+        left_is = left_by c (frames_of (place_all 0 (encodings ls)) (encode l.written))
+
+        is : take c s'.log ++ drop c s.log ≡ cut_log w.number (encodings ls) (encode l.written) c ++ w.tail
+        is = cut_is s s' ls l w v same c limit low high unfit none
+
+        fits : Each (λ ys. length ys ≤ again) (encodings ls) × (length (encode l.written) ≤ again)
+        fits = limits s s' ls l w v same c again low high unfit none₁
+
     replay_on : replay_of s₂.log s₂.capacities again ≡ left s₂.queues
     unfolding replay_of and_then
     replay_on =
-        ap (λ (x : Capacities). replay_answers x [] (readings s₂.log again)) gone.going.same_room
-        ∙ ap (replay_answers m []) reading_on
-        ∙ replays_after m w.number (records_of ls) (left_by c l.frames) l.written (records_of gone.list)
-        ∙ ap (replay_records m []) (sym (append_assoc (records_of ls) (kept_of (left_by c l.frames) l.written) (records_of gone.list)))
-        ∙ records-append m [] (records_of ls ++ kept_of (left_by c l.frames) l.written) (records_of gone.list)
-        ∙ ap (λ (o : Outcome). and_then o (λ (x : List Queue). replay_records m x (records_of gone.list))) replayed
+        ap (λ (x : Capacities). replay_answers x [] (placed_readings s₂.log again)) gone.going.same_room
+        ∙ ap (replay_answers m []) placed_on
+        ∙ replays_after m w.number (placed_list ls) (left_by c l.frames) (placed_of l) gone.list
+        ∙ ap (replay_records m []) (sym (append_assoc (placed_list ls) (kept_of (left_by c l.frames) (placed_of l)) (placed_list gone.list)))
+        ∙ records-append m [] (placed_list ls ++ kept_of (left_by c l.frames) (placed_of l)) (placed_list gone.list)
+        ∙ ap (λ (o : Outcome). and_then o (λ (x : List Queue). replay_records m x (placed_list gone.list))) replayed
         ∙ gone.going.replayed
 
     after_calls : StatesAfterCalls (records_of ls) l.written (left_by c l.frames) (records_of (machine_from start h₂).records) s₂ again

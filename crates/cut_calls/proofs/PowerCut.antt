@@ -14,6 +14,10 @@ use Rattle.recordlog.specs.Laid.{place_all, laid}
 use Rattle.recordlog.specs.Claims.{read_all, Each}
 use Rattle.recordlog.specs.Read.{whole, end_of_log}
 use Rattle.recordlog.proofs.Frames.{length_record}
+use Rattle.frame.specs.Reader.{fresh}
+use Rattle.frame.specs.declared.Corruption.TheVariants.{WrongChecksum as wrong_checksum, UnknownType as unknown_type}
+use Rattle.recordlog.proofs.Sited.{ended, sited_from}
+use Rattle.recordlog.proofs.SitedRecords.{given_all}
 use Rattle.record.specs.Record.{Record, encode}
 use Rattle.record.specs.Fits.{WellFormed}
 use Rattle.record.proofs.Codec.{decodes_back}
@@ -22,7 +26,11 @@ use Rattle.calls.specs.State.{State, Call, create_call, delete_call, truncate_ca
 use Rattle.calls.specs.Payloads.{first_position, gives_empty}
 use Rattle.calls.specs.Refusals.{next_named, refusals_of, refusal_of}
 use Rattle.calls.specs.Calls.{logged, wrote, create_done, delete_done, truncate_done, empty_answer, append_taking, append_done, marked, mark_done, done_of, call_of}
-use Rattle.calls.specs.Reading.{ReadAnswer, gave_record, gave_end, of_record, answer_of, readings}
+use Rattle.calls.specs.Placed.{Placed, PlacedAnswer, placed_record, placed_corruption, placed_end, placed_readings}
+use Rattle.calls.specs.PlacedList.{placed_of, placed_list}
+use Rattle.calls.proofs.Placed.{told_at, placed_readings_told}
+use Rattle.calls.proofs.PlacedRuns.{told_listed, told_given}
+use Rattle.calls.specs.Reading.{ReadAnswer, gave_record, gave_end, lost_frame, of_record, answer_of, readings}
 use Rattle.calls.specs.Replay.{replay_answers, replay_records, replay_of}
 use Rattle.calls.specs.Machine.{Listed, Machine, Fed, machine_call, machine, records_of, NoneLonger}
 use Rattle.calls.specs.Run.{StatesRun}
@@ -30,16 +38,16 @@ use Rattle.calls.proofs.Passed.{create_passed, delete_passed, truncate_passed, A
 use Rattle.calls.proofs.Done.{call_done}
 use Rattle.calls.proofs.Replaying.{replay_all, replay_corrupt}
 use Rattle.calls.proofs.Answers.{Formed, readings_same, records-given}
-use Rattle.calls.proofs.Follows.{encodings, map-append, records_of_append, encodings_append, Owns, Standing, log_size, machine_of}
+use Rattle.calls.proofs.Follows.{encodings, map-append, records_of_append, placed_append, encodings_append, Owns, Standing, log_size, machine_of}
 use Rattle.calls.proofs.Steps.{Stepped, stepped, follows}
 use Rattle.calls.proofs.Runs.{log_legal, each_limit}
 use Rattle.cut.specs.Cut.{Unfit, Left, complete, headed, nothing, torn}
 use Rattle.cut.specs.Claims.{cut_log, given, cut_answers, Cutting}
 use Rattle.cut.specs.Cut.{left as left_by}
-use Rattle.cut.proofs.Reading.{cut_read}
+use Rattle.cut.proofs.Reading.{cut_sited, cut_read}
 use Rattle.cut.proofs.Origin.{cut_of_writing}
 use Rattle.recordlog.proofs.Append.{place-append}
-use Rattle.cut.proofs.State.{log_size as cut_size}
+use Rattle.cut.proofs.State.{given_at, log_size as cut_size}
 use Rattle.cut_calls.specs.Claims.{Writes, cut_of, StatesAfterCut, StatesPowerCut}
 use Rattle.cut_calls.specs.CutRecord.{cut_answered, kept_of}
 
@@ -79,12 +87,27 @@ answers_back headed r f = refl
 answers_back nothing r f = refl
 answers_back (torn s) r f = refl
 
-replays_back : (c : Capacities) (before : List Record) (l : Left) (r : Record)
-    → replay_answers c [] (map gave_record before ++ (cut_answered l r ++ (gave_end ∷ []))) ≡ replay_records c [] (before ++ kept_of l r)
-unfolding cut_answered kept_of
+-- with blocks: what reading gives for a record that was cut
+unfoldable pub placed_answered : Left → Placed → List PlacedAnswer
+placed_answered complete r = placed_record r ∷ []
+placed_answered headed r = placed_corruption (lost_frame wrong_checksum) ∷ []
+placed_answered nothing r = []
+placed_answered (torn s) r = placed_corruption (lost_frame unknown_type) ∷ []
+
+pub told_cut : (l : Left) (p : ℕ) (w : Listed) → w.frames ≡ frames_of p (encode w.written) → WellFormed w.written
+    → map told_at (given_at l p (encode w.written)) ≡ placed_answered l (placed_of w)
+unfolding given_at placed_answered told_at
+told_cut complete p w o f = ap (λ (x : PlacedAnswer). x ∷ []) (told_listed p w o f)
+told_cut headed p w o f = refl
+told_cut nothing p w o f = refl
+told_cut (torn s) p w o f = refl
+
+replays_back : (c : Capacities) (before : List Placed) (l : Left) (r : Placed)
+    → replay_answers c [] (map placed_record before ++ (placed_answered l r ++ (placed_end ∷ []))) ≡ replay_records c [] (before ++ kept_of l r)
+unfolding placed_answered kept_of
 replays_back c before complete r =
     ap (replay_answers c [])
-    (sym (ap (λ (a : List ReadAnswer). a ++ (gave_end ∷ [])) (map-append gave_record before (r ∷ [])) ∙ append_assoc (map gave_record before) (gave_record r ∷ []) (gave_end ∷ [])))
+    (sym (ap (λ (a : List PlacedAnswer). a ++ (placed_end ∷ [])) (map-append placed_record before (r ∷ [])) ∙ append_assoc (map placed_record before) (placed_record r ∷ []) (placed_end ∷ [])))
     ∙ replay_all c [] (before ++ (r ∷ []))
 replays_back c before headed r = replay_corrupt c [] before [] _
 replays_back c before nothing r = replay_all c [] before ∙ ap (replay_records c []) (sym (append-nil before))
@@ -164,27 +187,47 @@ module _ (s s' : State) (ls : List Listed) (l : Listed) (w : Standing s ls) (v :
       (answers_back (left_by c (frames_of (place_all 0 (encodings ls)) (encode l.written))) l.written formed.1
       ∙ ap (λ (fs : List Frame). cut_answered (left_by c fs) l.written) (sym own)))
 
-  pub replaying_cut : (m : Capacities) → replay_of (take c s'.log ++ drop c s.log) m limit ≡ replay_records m [] (records_of ls ++ kept_of (left_by c l.frames) l.written)
+  placed_cut : placed_readings (take c s'.log ++ drop c s.log) limit
+      ≡ map placed_record (placed_list ls) ++ (placed_answered (left_by c l.frames) (placed_of l) ++ (placed_end ∷ []))
+  unfolding told_at
+  placed_cut =
+      placed_readings_told (take c s'.log ++ drop c s.log) limit (log_legal (take c s'.log ++ drop c s.log) w.number (length w.tail) cut_length w.short w.some w.most)
+      ∙ ap (λ (log : List ℕ). map told_at (sited_from log limit fresh)) cut_is
+      ∙ ap (map told_at) (cut_sited w.number limit c (encodings ls) (encode l.written) w.tail cutting)
+      ∙ map-append told_at (given_all 0 (encodings ls)) (given_at x p (encode l.written) ++ (ended ∷ []))
+      ∙ ap₂ (λ (a b : List PlacedAnswer). a ++ b) (told_given 0 ls w.owns formed.0)
+      (map-append told_at (given_at x p (encode l.written)) (ended ∷ [])
+      ∙ ap (λ (a : List PlacedAnswer). a ++ (placed_end ∷ []))
+      (told_cut x p l own formed.1 ∙ ap (λ (fs : List Frame). placed_answered (left_by c fs) (placed_of l)) (sym own)))
+    where
+      p : ℕ
+      p = place_all 0 (encodings ls)
+
+      x : Left
+      x = left_by c (frames_of (place_all 0 (encodings ls)) (encode l.written))
+
+  pub replaying_cut : (m : Capacities) → replay_of (take c s'.log ++ drop c s.log) m limit ≡ replay_records m [] (placed_list ls ++ kept_of (left_by c l.frames) (placed_of l))
   unfolding replay_of
-  replaying_cut m = ap (replay_answers m []) reading_cut ∙ replays_back m (records_of ls) (left_by c l.frames) l.written
+  replaying_cut m = ap (replay_answers m []) placed_cut ∙ replays_back m (placed_list ls) (left_by c l.frames) (placed_of l)
 
 -- ---- after every list of calls
 
 module _ (s : State) (ls : List Listed) (w : Standing s ls) (k : Call) (l : Listed) (v : Standing (call_of s k).state (ls ++ (l ∷ [])))
     (same : length (call_of s k).state.log ≡ length s.log) (c limit : ℕ) (low : s.place ≤ c) (high : c ≤ (call_of s k).state.place)
     (unfit : Unfit c l.frames) (none : NoneLonger limit (ls ++ (l ∷ []))) where
-  after_cut : StatesAfterCut s k (records_of ls) l.written (left_by c l.frames) (cut_of s k c) limit
+  after_cut : StatesAfterCut s k ls l (left_by c l.frames) (cut_of s k c) limit
+  unfolding placed_list
   after_cut = record {
     reading = reading_cut s (call_of s k).state ls l w v same c limit low high unfit none;
     replay = again;
     replay_before = λ e.
-        again s.capacities ∙ ap (replay_records s.capacities []) (ap (λ (rs : List Record). records_of ls ++ rs) e ∙ append-nil (records_of ls)) ∙ w.replayed;
+        again s.capacities ∙ ap (replay_records s.capacities []) (ap (λ (rs : List Placed). placed_list ls ++ rs) e ∙ append-nil (placed_list ls)) ∙ w.replayed;
     replay_after = λ e.
         again (call_of s k).state.capacities
-        ∙ ap (replay_records (call_of s k).state.capacities []) (ap (λ (rs : List Record). records_of ls ++ rs) e ∙ sym (records_of_append ls (l ∷ []))) ∙ v.replayed;
+        ∙ ap (replay_records (call_of s k).state.capacities []) (ap (λ (rs : List Placed). placed_list ls ++ rs) e ∙ sym (placed_append ls (l ∷ []))) ∙ v.replayed;
   }
     where
-      again : (m : Capacities) → replay_of (cut_of s k c) m limit ≡ replay_records m [] (records_of ls ++ kept_of (left_by c l.frames) l.written)
+      again : (m : Capacities) → replay_of (cut_of s k c) m limit ≡ replay_records m [] (placed_list ls ++ kept_of (left_by c l.frames) (placed_of l))
       again = replaying_cut s (call_of s k).state ls l w v same c limit low high unfit none
 
 -- what is known of a call that writes a record
@@ -222,5 +265,5 @@ known h s r k l wr = record { list = (follows r).list; records_is = records_is; 
 pub states_power_cut : StatesPowerCut
 states_power_cut h s r k l wr c limit low high unfit none =
     let w = known h s r k l wr in
-    subst (λ (ms : List Listed). StatesAfterCut s k (records_of ms) l.written (left_by c l.frames) (cut_of s k c) limit) (sym w.records_is)
+    subst (λ (ms : List Listed). StatesAfterCut s k ms l (left_by c l.frames) (cut_of s k c) limit) (sym w.records_is)
     (after_cut s w.list w.stands k l w.stands_after w.same c limit low high unfit (subst (λ (ms : List Listed). NoneLonger limit (ms ++ (l ∷ []))) w.records_is none))

@@ -11,7 +11,8 @@ use borrow.Author.Tests.{ne_eqb}
 use Rattle.slices.specs.Put.{put}
 use Rattle.slices.proofs.Put.{length_put}
 use Rattle.frame.specs.Block.{blocks}
-use Rattle.recordlog.specs.Write.{place_after, record_bytes}
+use Rattle.recordlog.specs.Write.{frames_of, place_after, record_bytes}
+use Rattle.recordlog.specs.Began.{header_block}
 use Rattle.recordlog.specs.Laid.{place_all}
 use Rattle.recordlog.proofs.Frames.{length_record}
 use Rattle.record.specs.Record.{Record, encode}
@@ -25,7 +26,10 @@ use Rattle.calls.specs.Machine.{Listed, Machine, Fed, puts, machine_call, was_re
 use Rattle.calls.proofs.Replaying.{records-append}
 use Rattle.calls.proofs.Answers.{Formed}
 use Rattle.calls.proofs.Arranged.{Arrangement, records-arranged}
-use Rattle.calls.proofs.Follows.{encodings, records_of_append, encodings_append, machine_of, listed}
+use Rattle.calls.specs.Placed.{placed}
+use Rattle.calls.specs.PlacedList.{placed_of, placed_list}
+use Rattle.calls.proofs.PlacedList.{first_listed}
+use Rattle.calls.proofs.Follows.{encodings, records_of_append, placed_append, bare_list, encodings_append, Owns, owns_snoc, machine_of, listed}
 use Rattle.calls.proofs.Steps.{done_zero}
 use Rattle.cut.specs.Claims.{write_all}
 use Rattle.recordlog.proofs.Append.{place-append}
@@ -51,9 +55,10 @@ pub record Going (log : List ℕ) (q n : ℕ) (m : Capacities) (qs : List Queue)
   pub size : blocks s.log ≡ n
   pub same_length : length s.log ≡ length log
   pub formed : Formed (records_of ls)
+  pub owns : Owns q ls
   pub sound : s.arranged ≡ true
   pub same_room : s.capacities ≡ m
-  pub replayed : replay_records m qs (records_of ls) ≡ left s.queues
+  pub replayed : replay_records m qs (placed_list ls) ≡ left s.queues
 
 -- the machine, and what holds
 pub record Gone (log : List ℕ) (q n : ℕ) (c : Capacities) (qs : List Queue) (s : State) (m : Machine) : Type 0 where
@@ -64,9 +69,9 @@ pub record Gone (log : List ℕ) (q n : ℕ) (c : Capacities) (qs : List Queue) 
 module _ (log : List ℕ) (q n : ℕ) (c : Capacities) (qs₀ : List Queue) (arr : Arrangement c qs₀) where
   -- a record more
   one_more_lem : (s : State) (ls : List Listed) (g : Going log q n c qs₀ s ls) (r : Record) (qs : List Queue) → WellFormed r
-      → place_after s.place (encode r) ≤ blocks s.log * 32768 → replay_record s.capacities s.queues r ≡ left qs
+      → place_after s.place (encode r) ≤ blocks s.log * 32768 → replay_record s.capacities s.queues (header_block s.place) r ≡ left qs
       → Going log q n c qs₀ (logged s r qs) (ls ++ (listed s r ∷ []))
-  unfolding logged replay_records and_then place_all
+  unfolding logged replay_records and_then place_all placed_list placed_of
   one_more_lem s ls g r qs f room e = record {
     log_is =
         ap₂ (λ (l : List ℕ) (i : ℕ). put l i (record_bytes i (encode r))) g.log_is g.place_is
@@ -76,13 +81,15 @@ module _ (log : List ℕ) (q n : ℕ) (c : Capacities) (qs₀ : List Queue) (arr
     size = omega (arith, long, g.size);
     same_length = long ∙ g.same_length;
     formed = subst Formed (sym (records_of_append ls (listed s r ∷ []))) (formed_append (records_of ls) r g.formed f);
+    owns = owns_snoc q ls (listed s r) g.owns (ap (λ (i : ℕ). frames_of i (encode r)) g.place_is);
     sound = refl;
     same_room = g.same_room;
     replayed =
-        ap (replay_records c qs₀) (records_of_append ls (listed s r ∷ []))
-        ∙ records-append c qs₀ (records_of ls) (r ∷ [])
-        ∙ ap (λ (o : Outcome). and_then o (λ (x : List Queue). replay_records c x (r ∷ []))) g.replayed
-        ∙ ap (λ (o : Outcome). and_then o (λ (x : List Queue). replay_records c x [])) (ap (λ (m : Capacities). replay_record m s.queues r) (sym g.same_room) ∙ e);
+        ap (replay_records c qs₀) (placed_append ls (listed s r ∷ []) ∙ ap (λ (b : ℕ). placed_list ls ++ (placed b r ∷ [])) (first_listed s.place (encode r)))
+        ∙ records-append c qs₀ (placed_list ls) (placed (header_block s.place) r ∷ [])
+        ∙ ap (λ (o : Outcome). and_then o (λ (x : List Queue). replay_records c x (placed (header_block s.place) r ∷ []))) g.replayed
+        ∙ ap (λ (o : Outcome). and_then o (λ (x : List Queue). replay_records c x []))
+        (ap (λ (m : Capacities). replay_record m s.queues (header_block s.place) r) (sym g.same_room) ∙ e);
   }
     where
       snoc : encodings (ls ++ (listed s r ∷ [])) ≡ encodings ls ++ (encode r ∷ [])
@@ -95,7 +102,7 @@ module _ (log : List ℕ) (q n : ℕ) (c : Capacities) (qs₀ : List Queue) (arr
       long = length_put s.log s.place (record_bytes s.place (encode r)) (omega (arith, length_record s.place (encode r)))
 
   arranged : (s : State) (ls : List Listed) → Going log q n c qs₀ s ls → Arrangement s.capacities s.queues
-  arranged s ls g = subst (λ (m : Capacities). Arrangement m s.queues) (sym g.same_room) (records-arranged c qs₀ s.queues (records_of ls) g.formed arr g.replayed)
+  arranged s ls g = subst (λ (m : Capacities). Arrangement m s.queues) (sym g.same_room) (records-arranged c qs₀ s.queues (placed_list ls) (subst Formed (sym (bare_list ls)) g.formed) arr g.replayed)
 
   -- a call that is done
   on_done : (s x : State) (ls : List Listed) (go : List Listed → Machine) → Going log q n c qs₀ s ls → Taken s x go → Gone log q n c qs₀ x (go ls)

@@ -1,10 +1,11 @@
 -- Definition (02, "Ticket 6").
--- The record that was cut: what reading and replay give for it; and the plain machine from any queues and place on (02, Ticket 6).
+-- The record that was cut: what reading and replay give for it, in replay with its block (02, Ticket 10); and the plain machine from any queues and place on (02, Ticket 6).
 -- Assumes nothing.
 use Rattle.std.specs.Prelude.{cond, List, [], ◌∷◌, map, ℕ}
 use Rattle.frame.specs.declared.Corruption.TheVariants.{WrongChecksum as wrong_checksum, UnknownType as unknown_type}
 use Rattle.record.specs.Record.{Record, encode}
 use Rattle.calls.specs.Reading.{ReadAnswer, gave_record, gave_corruption, lost_frame}
+use Rattle.calls.specs.Placed.{Placed}
 use Rattle.calls.specs.Machine.{Machine, Fed, machine_call}
 use Rattle.cut.specs.Cut.{covered, Left, complete, headed, nothing, torn}
 
@@ -16,7 +17,7 @@ cut_answered nothing r = []
 cut_answered (torn s) r = gave_corruption (lost_frame unknown_type) ∷ []
 
 -- the record, where all its frames count as stored
-unfoldable pub kept_of : Left → Record → List Record
+unfoldable pub kept_of : Left → Placed → List Placed
 kept_of complete r = r ∷ []
 kept_of headed r = []
 kept_of nothing r = []

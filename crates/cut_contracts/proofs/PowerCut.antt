@@ -9,7 +9,6 @@ use native.Mathlib.Omega.{arith}
 use lib.ListN.{length, take, drop, length-replicate}
 use Rattle.slices.specs.Bytes.{zeros}
 use Rattle.recordlog.specs.Read.{resume}
-use Rattle.record.specs.Record.{Record}
 use Rattle.queues.specs.Queues.{Queue, Capacities}
 use Rattle.queues.specs.Layout.{Memory, meaning, capacities, Leaves}
 use Rattle.largest.specs.Table.{arranged_with}
@@ -18,6 +17,8 @@ use Rattle.calls.specs.Refusals.{log_refused, refusal_of}
 use Rattle.calls.specs.Calls.{call_of}
 use Rattle.calls.specs.Reading.{readings, lost_in}
 use Rattle.calls.specs.Lost.{lost_bytes}
+use Rattle.calls.specs.Placed.{Placed}
+use Rattle.calls.specs.PlacedList.{placed_of, placed_list}
 use Rattle.calls.specs.Replay.{Outcome, refused, left, replayed_by, replay_of, outcome_queues, replay_records, replay_scratch}
 use Rattle.calls.specs.Machine.{Listed, Machine, Fed, machine, records_of, NoneLonger}
 use Rattle.calls.proofs.Done.{call_refused, same_state}
@@ -60,7 +61,7 @@ done_by s k a e z = go (refusal_of s k) refl
     go zero d = refl
     go (suc i) d = absurd (omega (arith, ap (λ (x : CallAnswer). x.refusal) (e ∙ ap (λ (x : Returned). x.answer) (call_refused s k i d))))
 
-kept_cases : (x : Left) (r : Record) → (kept_of x r ≡ []) ⊎ (kept_of x r ≡ r ∷ [])
+kept_cases : (x : Left) (r : Placed) → (kept_of x r ≡ []) ⊎ (kept_of x r ≡ r ∷ [])
 unfolding kept_of
 kept_cases complete r = inr refl
 kept_cases headed r = inl refl
@@ -79,32 +80,32 @@ module _ (h : List Fed) (l : Lent) (run : Run h l) (k : Call) (a : CallAnswer) (
   cut_same c = ap (λ (log : List ℕ). take c log ++ drop c l.log) (sym wr.kept.log_left)
 
   module _ (c limit : ℕ) (low : l.place ≤ c) (high : c ≤ l'.place) (unfit : Unfit c w.frames) (few : NoneLonger limit ((machine h).records ++ (w ∷ []))) where
-    over_states : StateAfterCut (state_of l) k (records_of (machine h).records) w.written (left_by c w.frames) (cut_lent l l' c) limit
+    over_states : StateAfterCut (state_of l) k (machine h).records w (left_by c w.frames) (cut_lent l l' c) limit
     unfolding state_of
     over_states =
-        subst (λ (log : List ℕ). StateAfterCut (state_of l) k (records_of (machine h).records) w.written (left_by c w.frames) log limit) (cut_same c)
+        subst (λ (log : List ℕ). StateAfterCut (state_of l) k (machine h).records w (left_by c w.frames) log limit) (cut_same c)
         (states_cut h (state_of l) (run_means h l run) k w writes c limit low (omega (arith, wr.kept.place_left)) unfit few)
 
-    before : kept_of (left_by c w.frames) w.written ≡ [] → replay_of (cut_lent l l' c) (capacities l.memory) limit ≡ left (meaning l.memory)
+    before : kept_of (left_by c w.frames) (placed_of w) ≡ [] → replay_of (cut_lent l l' c) (capacities l.memory) limit ≡ left (meaning l.memory)
     unfolding state_of
     before e = over_states.replay_before e
 
-    after : kept_of (left_by c w.frames) w.written ≡ w.written ∷ [] → replay_of (cut_lent l l' c) (capacities l'.memory) limit ≡ left (meaning l'.memory)
+    after : kept_of (left_by c w.frames) (placed_of w) ≡ placed_of w ∷ [] → replay_of (cut_lent l l' c) (capacities l'.memory) limit ≡ left (meaning l'.memory)
     unfolding state_of
     after e = subst (λ (x : State). replay_of (cut_lent l l' c) x.capacities limit ≡ left x.queues) (sym means) (over_states.replay_after e)
 
     legal : log_refused (cut_lent l l' c) ≡ false
-    legal = go (kept_cases (left_by c w.frames) w.written)
+    legal = go (kept_cases (left_by c w.frames) (placed_of w))
       where
-        go : (kept_of (left_by c w.frames) w.written ≡ []) ⊎ (kept_of (left_by c w.frames) w.written ≡ w.written ∷ []) → log_refused (cut_lent l l' c) ≡ false
+        go : (kept_of (left_by c w.frames) (placed_of w) ≡ []) ⊎ (kept_of (left_by c w.frames) (placed_of w) ≡ placed_of w ∷ []) → log_refused (cut_lent l l' c) ≡ false
         go (inl e) = legal_by (cut_lent l l' c) (capacities l.memory) limit (meaning l.memory) (before e) (log_refused (cut_lent l l' c)) refl
         go (inr e) = legal_by (cut_lent l l' c) (capacities l'.memory) limit (meaning l'.memory) (after e) (log_refused (cut_lent l l' c)) refl
 
-    after_cut : AfterCut l l' (records_of (machine h).records) w.written (left_by c w.frames) (cut_lent l l' c) limit
+    after_cut : AfterCut l l' (machine h).records w (left_by c w.frames) (cut_lent l l' c) limit
     after_cut = record {
       reading = λ scratch gs n rs. reads_all cut scratch gs rs ∙ ap (readings cut) n ∙ over_states.reading;
       replay = λ scratch scratch' m m' ks ks' b n long kept.
-          replays_as cut scratch scratch' m m' b (queues_kept cut m ks (λ _. long) scratch scratch' m' b ks' kept) legal (replay_records (capacities m) [] (records_of (machine h).records ++ kept_of (left_by c w.frames) w.written))
+          replays_as cut scratch scratch' m m' b (queues_kept cut m ks (λ _. long) scratch scratch' m' b ks' kept) legal (replay_records (capacities m) [] (placed_list (machine h).records ++ kept_of (left_by c w.frames) (placed_of w)))
           (ap (replay_of cut (capacities m)) n ∙ over_states.replay (capacities m));
       replay_before = λ e scratch scratch' m m' ks ks' b n f long kept.
           gives_at cut scratch scratch' m m' ks ks' b (capacities l.memory) limit (meaning l.memory) long kept n f (before e);
@@ -147,7 +148,7 @@ module _ (log scratch : List ℕ) (m : Memory) (ks : List ℕ) (l₀ : Lent) (o 
   inner = queues_kept log m ks (λ _. long_opened) scratch l₀.scratch l₀.memory (replayed o.lost o.lost_bytes l₀.place) l₀.largest o.kept
 
   -- the queues that replay gave, and the place
-  found : (qs : List Queue) × (replay_of log (capacities m) (length scratch) ≡ left qs) × (l₀.place ≡ resume log (length scratch))
+  pub found : (qs : List Queue) × (replay_of log (capacities m) (length scratch) ≡ left qs) × (l₀.place ≡ resume log (length scratch))
   found =
       told-left (replay_of log (capacities m) (length scratch)) o.lost (lost_in (readings log (length scratch))) o.lost_bytes (lost_bytes log (length scratch)) l₀.place (resume log (length scratch))
       (answers log scratch l₀.scratch m l₀.memory (replayed o.lost o.lost_bytes l₀.place) inner (replay_of log (capacities m) (length scratch)) refl)
@@ -159,7 +160,7 @@ module _ (log scratch : List ℕ) (m : Memory) (ks : List ℕ) (l₀ : Lent) (o 
   unfolding outcome_queues
   memory_is = leaves log scratch l₀.scratch m l₀.memory (replayed o.lost o.lost_bytes l₀.place) inner legal_opened (left found.0) found.1
 
-  opened_means : state_of l₀ ≡ reopened log (capacities m) found.0 (length scratch)
+  pub opened_means : state_of l₀ ≡ reopened log (capacities m) found.0 (length scratch)
   unfolding state_of replay_scratch
   opened_means =
       same_state (state_of l₀) (reopened log (capacities m) found.0 (length scratch))

@@ -9,6 +9,7 @@ use Rattle.queues.specs.Layout.{Memory, meaning, capacities}
 use Rattle.calls.specs.State.{Call, CallAnswer}
 use Rattle.calls.specs.Reading.{gave_record, gave_end}
 use Rattle.calls.specs.Reading.{ReadAnswer as Given}
+use Rattle.calls.specs.PlacedList.{placed_of, placed_list}
 use Rattle.calls.specs.Replay.{replay_records}
 use Rattle.calls.specs.Machine.{Listed, Fed, machine_call, machine, was_refused, records_of, NoneLonger}
 use Rattle.calls.specs.declared.Refusal.{Refusal as RefusalOf}
@@ -56,19 +57,20 @@ ReplayGives log limit m₀ = (scratch scratch' : List ℕ) (m m' : Memory) (ks k
     → length m.entries ≤ length ks → ReplayKept log scratch m ks a scratch' m' ks' → Gives a m m' (meaning m₀)
 
 -- "reading gives all earlier records in order, the last one too if all its frames count as stored, at most one corruption answer, and no other record"; replay, whatever
--- memory is lent with a further table that is long enough, gives what these records give, and in memory of the same sizes the queues before the call, or after it where all is stored
-pub record AfterCut (l l' : Lent) (before : List Record) (r : Record) (x : Left) (cut : List ℕ) (limit : ℕ) : Type 0 where
-  pub reading : ReadsAs cut limit (map gave_record before ++ (cut_answered x r ++ (gave_end ∷ [])))
+-- memory is lent with a further table that is long enough, gives what these records give, and in memory of the same sizes the queues before the call, or after it where all is stored.
+-- 02, Ticket 10: each record with "the block in which 01's list puts its log record's first frame header".
+pub record AfterCut (l l' : Lent) (before : List Listed) (w : Listed) (x : Left) (cut : List ℕ) (limit : ℕ) : Type 0 where
+  pub reading : ReadsAs cut limit (map gave_record (records_of before) ++ (cut_answered x w.written ++ (gave_end ∷ [])))
   pub replay : (scratch scratch' : List ℕ) (m m' : Memory) (ks ks' : List ℕ) (a : Result ReplayedAt RefusalOf) → length scratch ≡ limit → length m.entries ≤ length ks
       → ReplayKept cut scratch m ks a scratch' m' ks'
-      → ReplaysAs (replay_records (capacities m) [] (before ++ kept_of x r)) a m m'
-  pub replay_before : kept_of x r ≡ [] → ReplayGives cut limit l.memory
-  pub replay_after : kept_of x r ≡ r ∷ [] → ReplayGives cut limit l'.memory
+      → ReplaysAs (replay_records (capacities m) [] (placed_list before ++ kept_of x (placed_of w))) a m m'
+  pub replay_before : kept_of x (placed_of w) ≡ [] → ReplayGives cut limit l.memory
+  pub replay_after : kept_of x (placed_of w) ≡ placed_of w ∷ [] → ReplayGives cut limit l'.memory
 
 abbrev pub PowerCut : Type 0
 PowerCut = (h : List Fed) (l : Lent) → Run h l → (k : Call) (a : CallAnswer) (l' : Lent) (w : Listed) → Wrote h l k a l' w
     → (c limit : ℕ) → l.place ≤ c → c ≤ l'.place → Unfit c w.frames → NoneLonger limit ((machine h).records ++ (w ∷ []))
-    → AfterCut l l' (records_of (machine h).records) w.written (left c w.frames) (cut_lent l l' c) limit
+    → AfterCut l l' (machine h).records w (left c w.frames) (cut_lent l l' c) limit
 
 -- "A record written after reopening, where the log has bytes for it, is read back too": every list of calls after it; and replay then gives the queues that they left
 pub record AfterCalls (before : List Record) (r : Record) (x : Left) (rs : List Record) (l₂ : Lent) (again : ℕ) : Type 0 where

@@ -5,6 +5,7 @@ use mathlib.Core.Bool.{Bool, true, false, cond}
 use mathlib.Core.List.{List, [], ◌∷◌, ◌++◌, map}
 use Prim.Native.Nat.{ℕ, ◌*◌, ◌≤◌}
 use native.Mathlib.Omega.{arith}
+use lib.Dec.{ltb}
 use lib.ListN.{length, take, drop, length-append, length-replicate}
 use lib.Seq.{take_at}
 use Rattle.slices.specs.Bytes.{Bytes, zeros}
@@ -15,6 +16,8 @@ use Rattle.record.specs.Record.{Record, encode}
 use Rattle.record.proofs.Codec.{decodes_back}
 use Rattle.queues.specs.Queues.{Queue}
 use Rattle.queues.proofs.Both.{never}
+use Rattle.recordlog.specs.Laid.{place_all, laid}
+use Rattle.calls.specs.Refusals.{refuse, first_refusal, log_refused}
 use Rattle.calls.specs.Reading.{readings, lost_in}
 use Rattle.calls.specs.Lost.{lost_bytes}
 use Rattle.calls.specs.Replay.{Outcome, left, replay_of, replayed_by, replay_call}
@@ -24,13 +27,18 @@ use Rattle.calls.proofs.AnyLog.{replayed_arranged}
 use Rattle.calls.proofs.Answers.{Formed}
 use Rattle.lost_bytes.specs.Claims.{Decodes}
 use Rattle.lost_bytes.proofs.Hit.{records_lose_nothing}
-use Rattle.copy_records.specs.Copy.{CopyLent, copy_records, copy_encoded, copy_refusal, copied}
+use Rattle.copy_records.specs.Copy.{CopyLent, copy_records, copy_encoded, copy_end, any_longer, copy_too_long, copy_refusals, copy_refusal, copied}
+use Rattle.copy_records.specs.Blocks.{copied_queues}
 use Rattle.copy_records.specs.Typed.{QueuesTyped}
 use Rattle.copy_records.proofs.Again.{arranged_ordered}
 use Rattle.copy_records.proofs.Formed.{Shorter, shorter_none}
-use Rattle.copy_records.proofs.Left.{copy_passed, number, encoded, rest, rest_short, room, target_left, formed, states_copy_replays}
+use Rattle.copy_records.proofs.Copied.{copied_same}
+use Rattle.copy_records.proofs.SameCopy.{copy_alike}
+use Rattle.copy_records.proofs.Left.{copy_passed, number, encoded, rest, rest_short, room, target_left, formed}
+use Rattle.copy_records.proofs.Stands.{states_copy_blocks}
 use Rattle.copy_records.proofs.NoMarks.{states_copy_lists_none}
 use Rattle.listing.specs.Listing.{shift_lines, listing}
+use Rattle.listing.proofs.Unlisted.{blocks_unlisted}
 use Rattle.readout_text.specs.Card.{text_by, text_for, text_in, readout_scratch, readout_room, sized_text, not_sized, card_text}
 use Rattle.readout_text.proofs.Sizes.{just_sized}
 use Rattle.std.specs.Prelude.{Result}
@@ -44,6 +52,18 @@ use Rattle.cutdown_card.proofs.Sizes.{put_first, fresh_is, fresh_long, was_sized
 decoded : (rs : List Record) → Formed rs → Each Decodes (map encode rs)
 decoded [] w = tt
 decoded (r ∷ rs) w = ((r, decodes_back r w.0), decoded rs w.1)
+
+-- ---- queues that are equal but for block numbers have one copy, and one refusal
+
+module _ (rs qs : List Queue) (e : copy_encoded rs ≡ copy_encoded qs) where
+  same_refusal : (z : List ℕ) (n : ℕ) → copy_refusal (lent_for z rs n) ≡ copy_refusal (lent_for z qs n)
+  unfolding copy_refusals copy_too_long copy_end
+  same_refusal z n =
+      ap (λ (xs : List (List ℕ)). first_refusal (refuse 1 (log_refused z) ∷ refuse 6 false ∷ refuse 11 (any_longer (length (zeros n)) xs) ∷ refuse 15 (ltb (blocks z * 32768) (place_all 0 xs)) ∷ [])) e
+
+  same_copy : (z : List ℕ) → copied z rs ≡ copied z qs
+  unfolding copied
+  same_copy z = ap (λ (xs : List (List ℕ)). laid (blocks z) xs ++ drop (blocks z * 32768) z) e
 
 -- ---- a card that is cut down to the queues qs
 
@@ -69,10 +89,17 @@ module _ (card : List ℕ) (qs : List Queue) (b : Bytes card) (t : QueuesTyped q
   same_blocks : blocks fresh ≡ blocks card
   same_blocks = omega (arith, long)
 
-  again_is : replay_of fresh readout_room readout_scratch ≡ left qs
+  -- the same queues, with the blocks of the fresh card
+  abbrev anew : List Queue
+  anew = copied_queues qs
+
+  same_encoded : copy_encoded anew ≡ copy_encoded qs
+  same_encoded = ap (map encode) (copy_alike anew qs (copied_same qs))
+
+  again_is : replay_of fresh readout_room readout_scratch ≡ left anew
   again_is =
       ap (λ (log : List ℕ). replay_of log readout_room readout_scratch) (sym (fresh_is card qs readout_scratch taken))
-      ∙ states_copy_replays lent readout_room taken in_room t readout_scratch (omega (arith, length-replicate {A = ℕ} readout_scratch 0))
+      ∙ states_copy_blocks lent readout_room taken in_room t readout_scratch (omega (arith, length-replicate {A = ℕ} readout_scratch 0))
 
   short : Shorter readout_scratch (copy_encoded qs)
   short = subst (λ (n : ℕ). Shorter n (copy_encoded qs)) (length-replicate {A = ℕ} readout_scratch 0) (copy_passed lent taken).in_scratch
@@ -97,7 +124,8 @@ module _ (card : List ℕ) (qs : List Queue) (b : Bytes card) (t : QueuesTyped q
       let ms : List ℕ = marks_in (readings fresh readout_scratch) in
       just_sized fresh (omega (arith, long, h.0)) (omega (arith, long, h.1))
       ∙ ap (λ (o : Outcome). text_for (replayed_by o (lost_in (readings fresh readout_scratch)) (lost_bytes fresh readout_scratch) (resume fresh readout_scratch)) (listed_by o ms) (length fresh)) again_is
-      ∙ ap₂ (λ (ns : List ℕ) (n : ℕ). shift_lines ns ++ listing qs n (resume fresh readout_scratch) (length fresh)) none_marked nothing_lost
+      ∙ ap₂ (λ (ns : List ℕ) (n : ℕ). shift_lines ns ++ listing anew n (resume fresh readout_scratch) (length fresh)) none_marked nothing_lost
+      ∙ blocks_unlisted anew qs 0 (resume fresh readout_scratch) (length fresh) (copied_same qs)
 
   fresh_sized : not_sized fresh ≡ false
   fresh_sized =
@@ -107,12 +135,12 @@ module _ (card : List ℕ) (qs : List Queue) (b : Bytes card) (t : QueuesTyped q
   same_blank : blank_card fresh ≡ blank_card card
   same_blank = ap (λ (k : ℕ). zeros (k * 32768)) same_blocks
 
-  pub stays_so : cut_down fresh ≡ cut_to qs
+  pub stays_so : cut_down fresh ≡ cut_to anew
   unfolding cut_down cut_into cut_by
   stays_so =
       ap₂ (λ (x : Bool) (o : Outcome). cond x (cut_refused 1) (cut_into (blank_card fresh) readout_scratch o)) fresh_sized again_is
-      ∙ ap (λ (z : List ℕ). cut_by (copy_refusal (lent_for z qs readout_scratch)) qs) same_blank
-      ∙ ap (λ (n : ℕ). cut_by n qs) taken
+      ∙ ap (λ (z : List ℕ). cut_by (copy_refusal (lent_for z anew readout_scratch)) anew) same_blank
+      ∙ ap (λ (n : ℕ). cut_by n anew) (same_refusal anew qs same_encoded (blank_card card) readout_scratch ∙ taken)
 
   pub refreshed : Refreshed card fresh
   unfolding fresh_card
@@ -121,10 +149,11 @@ module _ (card : List ℕ) (qs : List Queue) (b : Bytes card) (t : QueuesTyped q
         queues = qs;
         held = held_is;
         again = again_is;
+        same = copied_same qs;
         as_long = long;
         lists = lists_them;
         stays = stays_so;
-        same_bytes = ap (λ (z : List ℕ). copied z qs) same_blank;
+        same_bytes = ap (λ (z : List ℕ). copied z anew) same_blank ∙ same_copy anew qs same_encoded (blank_card card);
       }
 
 -- ---- from the contract

@@ -44,9 +44,9 @@ use Rattle.cutdown_card.proofs.Into.{outcome_long}
 room_for : ℕ → ℕ → ℕ → ℕ → Capacities
 room_for t ns es ps = record { queues = queue_room t; names = ns; records = es; payloads = ps }
 
-entries_long : (es : List ℕ) → length es ≡ 24576 → length (unpacked es) ≡ 1024
+entries_long : (es : List ℕ) → length es ≡ 32768 → length (unpacked es) ≡ 1024
 unfolding room_in
-entries_long es e = length-unpacked es ∙ ap (λ (n : ℕ). min (n / 24) 1024) e
+entries_long es e = length-unpacked es ∙ ap (λ (n : ℕ). min (n / 32) 1024) e
 
 words_long : (t : List ℕ) → length t ≡ 1568 → length (words t) ≡ 196
 unfolding words_in
@@ -56,13 +56,13 @@ numbers_long : (ks : List ℕ) → length ks ≡ 8192 → length (numbers ks) �
 unfolding numbers_in
 numbers_long ks e = length-numbers ks ∙ ap (λ (n : ℕ). min (n / 8) 1024) e
 
-room_is : (ns ps es ks t : List ℕ) → length ns ≡ 32768 → length ps ≡ 32768 → length es ≡ 24576 → length t ≡ 1568 → capacities (memory_in (memory_bytes ns ps es ks t)) ≡ readout_room
+room_is : (ns ps es ks t : List ℕ) → length ns ≡ 32768 → length ps ≡ 32768 → length es ≡ 32768 → length t ≡ 1568 → capacities (memory_in (memory_bytes ns ps es ks t)) ≡ readout_room
 unfolding capacities queue_room at_most64 room_for
 room_is ns ps es ks t a b c d =
     ap (λ (k : ℕ). room_for k (length ns) (length (unpacked es)) (length ps)) (words_long t d) ∙ ap (λ (k : ℕ). room_for 196 k (length (unpacked es)) (length ps)) a
     ∙ ap (λ (k : ℕ). room_for 196 32768 k (length ps)) (entries_long es c) ∙ ap (λ (k : ℕ). room_for 196 32768 1024 k) b
 
-pub sized_left : (card scratch ns ps es ks t target : List ℕ) (r : Result ℕ NotCut) (target' : List ℕ) → length scratch ≡ 65536 → length ns ≡ 32768 → length ps ≡ 32768 → length es ≡ 24576
+pub sized_left : (card scratch ns ps es ks t target : List ℕ) (r : Result ℕ NotCut) (target' : List ℕ) → length scratch ≡ 65536 → length ns ≡ 32768 → length ps ≡ 32768 → length es ≡ 32768
     → length ks ≡ 8192 → length t ≡ 1568 → CutIntoKept card scratch (memory_bytes ns ps es ks t) target r target' → CutSizedKept card target r target'
 sized_left card scratch ns ps es ks t target r target' s a b c k d w =
     let long : length (unpacked es) ≤ length (numbers ks) = omega (arith, entries_long es c, numbers_long ks k) in

@@ -18,7 +18,7 @@ fn cut_sized(card: &[u8], target: &mut [u8]) -> Result<usize, NotCut>
     let mut scratch = [0u8; 65536];
     let mut names = [0u8; 32768];
     let mut payloads = [0u8; 32768];
-    let mut entries = [0u8; 24576];
+    let mut entries = [0u8; 32768];
     let mut largest = [0u8; 8192];
     let mut table = [0u8; 1568];
     let mut memory = QueueMemory {

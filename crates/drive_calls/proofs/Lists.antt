@@ -24,7 +24,8 @@ use Rattle.calls.specs.Desks.{marks_in, listed_by, marks_listed}
 use Rattle.calls.specs.Marks.{shifts_of}
 use Rattle.calls.proofs.Passed.{WriteTaken, AppendPassed, create_passed, delete_passed, truncate_passed, append-passed, mark_passed}
 use Rattle.calls.proofs.Steps.{follows}
-use Rattle.calls.proofs.Runs.{same_records, reading, states_round_trip}
+use Rattle.calls.proofs.Runs.{same_records, reading}
+use Rattle.calls.proofs.PlacedRuns.{states_round_trip}
 use Rattle.calls.proofs.Marks.{marks_given}
 use Rattle.lost_bytes.proofs.Hit.{states_lose_nothing}
 use Rattle.listing.specs.Listing.{shift_lines, listing}

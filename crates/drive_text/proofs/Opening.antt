@@ -34,9 +34,9 @@ use Rattle.drive_text.specs.Internal.{Ran, Drove}
 abbrev made : List Queue → Bool → Capacities → ℕ → State
 made qs a c n = record { log = zeros 65536; place = 0; queues = qs; arranged = a; capacities = c; scratch = n }
 
-entries_long : (es : List ℕ) → length es ≡ 24576 → length (unpacked es) ≡ 1024
+entries_long : (es : List ℕ) → length es ≡ 32768 → length (unpacked es) ≡ 1024
 unfolding room_in
-entries_long es e = length-unpacked es ∙ ap (λ (n : ℕ). min (n / 24) 1024) e
+entries_long es e = length-unpacked es ∙ ap (λ (n : ℕ). min (n / 32) 1024) e
 
 numbers_long : (ks : List ℕ) → length ks ≡ 8192 → length (numbers ks) ≡ 1024
 unfolding numbers_in
@@ -59,7 +59,7 @@ unfolding capacities queue_room at_most64 room
 room_is ns ps es a b c = ap (λ (n : ℕ). room n (length es) (length ps)) a ∙ ap (λ (r : ℕ). room 32768 r (length ps)) c ∙ ap (room 32768 1024) b
 
 -- memory of `readout`'s sizes with a zeroed table of queues, whatever else it holds, means the state that the calls start from
-pub opening_means : (scratch ns ps es ks : List ℕ) → length scratch ≡ 65536 → length ns ≡ 32768 → length ps ≡ 32768 → length es ≡ 24576 → length ks ≡ 8192
+pub opening_means : (scratch ns ps es ks : List ℕ) → length scratch ≡ 65536 → length ns ≡ 32768 → length ps ≡ 32768 → length es ≡ 32768 → length ks ≡ 8192
     → state_of (lent_in (lent_bytes (zeros 65536) 0 scratch ns ps es ks (zeros 1568))) ≡ opening
 unfolding state_of
 opening_means scratch ns ps es ks d a b c k =
@@ -74,7 +74,7 @@ opening_means scratch ns ps es ks d a b c k =
     ∙ ap (made [] true readout_room) d
 
 pub drove : {input log scratch ns ps es ks log' out out' : List ℕ} {g' : LentBytes} {r : ℕ} → log ≡ zeros 65536
-    → length scratch ≡ 65536 → length ns ≡ 32768 → length ps ≡ 32768 → length es ≡ 24576 → length ks ≡ 8192
+    → length scratch ≡ 65536 → length ns ≡ 32768 → length ps ≡ 32768 → length es ≡ 32768 → length ks ≡ 8192
     → g'.log ≡ log' → Ran input (lent_bytes log 0 scratch ns ps es ks (zeros 1568)) g' out 0 r out' → Drove input log' out r out'
 unfolding state_of driven
 drove {input} {log} {scratch} {ns} {ps} {es} {ks} {g' = g'} e d a b c k f w =

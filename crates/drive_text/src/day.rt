@@ -24,7 +24,7 @@ fn drive_zeroed(input: &[u8], log: &mut [u8], out: &mut [u8]) -> usize
     let mut scratch = [0u8; 65536];
     let mut names = [0u8; 32768];
     let mut payloads = [0u8; 32768];
-    let mut entries = [0u8; 24576];
+    let mut entries = [0u8; 32768];
     let mut largest = [0u8; 8192];
     let mut table = [0u8; 1568];
     let mut writer = LogWriter {

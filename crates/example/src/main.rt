@@ -24,7 +24,7 @@ struct Log {
 struct Queues {
     names: [u8; 64],
     payloads: [u8; 1024],
-    entries: [u8; 192],
+    entries: [u8; 256],
     largest: [u8; 64],
     table: [u8; 56],
 }
@@ -58,7 +58,7 @@ impl Queues {
         Queues {
             names: [0; 64],
             payloads: [0; 1024],
-            entries: [0; 192],
+            entries: [0; 256],
             largest: [0; 64],
             table: [0; 56],
         }

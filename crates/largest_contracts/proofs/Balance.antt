@@ -8,8 +8,8 @@ use native.Mathlib.Omega.{arith}
 use lib.Dec.{leb, ltb}
 use lib.ListN.{length}
 use borrow.Author.Tests.{ne_eqb}
-use Rattle.record.specs.Record.{Item}
-use Rattle.queues.specs.Queues.{Queue, queue, next, items_above, truncate_when, truncate_queue, evicted, payloads_of, payload_bytes, Found, held, find, Position}
+use Rattle.recordlog.specs.Began.{header_block}
+use Rattle.queues.specs.Queues.{Stored, stored_items, Queue, queue, next, items_above, truncate_when, truncate_queue, evicted, payloads_of, payload_bytes, Found, held, find, Position}
 use Rattle.queues.specs.Queues.{truncate_found}
 use Rattle.queues.proofs.Walks.{found_stands}
 use Rattle.queues.proofs.Rising.{name_truncate}
@@ -30,23 +30,23 @@ use Rattle.largest_contracts.specs.Claims.{PayloadsBalance, LeavingCounted}
 
 -- ---- what leaves and what stays
 
-through_bytes_on : (b : Bool) (i : Item) (is ls ks : List Item) → payloads_of ls + payloads_of ks ≡ payloads_of is
+through_bytes_on : (b : Bool) (i : Stored) (is ls ks : List Stored) → payloads_of ls + payloads_of ks ≡ payloads_of is
     → payloads_of (cond b ls (i ∷ ls)) + payloads_of (cond b (i ∷ ks) ks) ≡ length i.payload + payloads_of is
 unfolding payloads_of
 through_bytes_on true i is ls ks h = omega arith
 through_bytes_on false i is ls ks h = omega arith
 
-through_bytes : (e : ℕ) (is : List Item) → payloads_of (items_through e is) + payloads_of (items_above e is) ≡ payloads_of is
+through_bytes : (e : ℕ) (is : List Stored) → payloads_of (items_through e is) + payloads_of (items_above e is) ≡ payloads_of is
 unfolding items_through items_above payloads_of
 through_bytes e [] = refl
 through_bytes e (i ∷ is) = through_bytes_on (ltb e i.position) i is (items_through e is) (items_above e is) (through_bytes e is)
 
-through_count_on : (b : Bool) (i : Item) (is ls ks : List Item) → length ls + length ks ≡ length is
+through_count_on : (b : Bool) (i : Stored) (is ls ks : List Stored) → length ls + length ks ≡ length is
     → length (cond b ls (i ∷ ls)) + length (cond b (i ∷ ks) ks) ≡ suc (length is)
 through_count_on true i is ls ks h = omega arith
 through_count_on false i is ls ks h = omega arith
 
-through_count : (e : ℕ) (is : List Item) → length (items_through e is) + length (items_above e is) ≡ length is
+through_count : (e : ℕ) (is : List Stored) → length (items_through e is) + length (items_above e is) ≡ length is
 unfolding items_through items_above
 through_count e [] = refl
 through_count e (i ∷ is) = through_count_on (ltb e i.position) i is (items_through e is) (items_above e is) (through_count e is)
@@ -113,13 +113,14 @@ module _ (m : Machine) (s : State) (same : m.queues ≡ s.queues) where
       let w = p.named in
       let q : Queue = w.queue in
       let o : ℕ = first_position a (next_of (find n m.queues)) in
+      let b : ℕ = header_block m.place in
       let f : find n m.queues ≡ held q = ap (find n) same ∙ w.is_held in
       omega (
         arith,
-        bytes_appends m.queues q (items_at o run ks) (found_stands n m.queues q f),
-        items_payloads o run ks (omega (arith, p.payloads.all)),
+        bytes_appends m.queues q (stored_items b (items_at o run ks)) (found_stands n m.queues q f),
+        items_payloads b o run ks (omega (arith, p.payloads.all)),
         p.payloads.all,
-        ap (λ (y : Found). payload_bytes (append_found (items_at o run ks) m.queues y)) f,
+        ap (λ (y : Found). payload_bytes (append_found (stored_items b (items_at o run ks)) m.queues y)) f,
       )
 
   append_balance : (n : List ℕ) (a : Position) (run ks : List ℕ) → first_refusal (append_refusals s n a run ks) ≡ 0

@@ -5,7 +5,7 @@ use mathlib.Core.Bool.{true, false}
 use mathlib.Core.List.{List, [], ◌∷◌}
 use Prim.Native.Nat.{ℕ}
 use Rattle.slices.specs.Order.{order, order_by}
-use Rattle.queues.specs.Queues.{find, find_on, keep, keep_on, start_with, append_item, next, next_from, payloads_of, truncate_found, truncate_queue, truncate_when, items_above, append_items, no_position}
+use Rattle.queues.specs.Queues.{stored_items, find, find_on, keep, keep_on, start_with, append_item, next, next_from, payloads_of, truncate_found, truncate_queue, truncate_when, items_above, append_items, no_position}
 use Rattle.calls.specs.State.{Call, create_call, delete_call, truncate_call, append_call}
 use Rattle.calls.specs.Payloads.{items_at, first_position, is_just_before, no_payloads, gives_empty}
 use Rattle.calls.specs.Named.{next_of, append_found}
@@ -32,9 +32,9 @@ unfolding accepted accepted_by gives_empty no_payloads is_just_before machine ma
 came_in = refl
 
 pub left : gone so_far ≡ 3
-unfolding gone gone_by evicted_bytes records_leaving records_leaving_when items_through payloads_of machine machine_call puts puts_append append_found append_items items_at first_position gives_empty no_payloads is_just_before find find_on keep keep_on order order_by next_of next next_from append_item start_with
+unfolding gone gone_by evicted_bytes records_leaving records_leaving_when items_through payloads_of machine machine_call puts puts_append append_found append_items stored_items items_at first_position gives_empty no_payloads is_just_before find find_on keep keep_on order order_by next_of next next_from append_item start_with
 left = refl
 
 pub deleted : gone (fed (delete_call name) ∷ so_far) ≡ 5
-unfolding gone gone_by evicted_bytes held_bytes records_leaving records_leaving_when items_through payloads_of machine machine_call puts puts_append append_found append_items items_at first_position gives_empty no_payloads is_just_before find find_on keep keep_on order order_by next_of next next_from append_item start_with truncate_found truncate_queue truncate_when items_above
+unfolding gone gone_by evicted_bytes held_bytes records_leaving records_leaving_when items_through payloads_of machine machine_call puts puts_append append_found append_items stored_items items_at first_position gives_empty no_payloads is_just_before find find_on keep keep_on order order_by next_of next next_from append_item start_with truncate_found truncate_queue truncate_when items_above
 deleted = refl

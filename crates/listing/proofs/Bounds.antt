@@ -13,7 +13,7 @@ use borrow.Author.Tests.{ltb-true, ltb-false}
 use Rattle.record.specs.Record.{Item}
 use Rattle.slices.specs.Put.{put}
 use Rattle.slices.proofs.Put.{put_all}
-use Rattle.queues.specs.Queues.{Queue, next, name_bytes, record_count, payloads_of, payload_bytes, rising, queue_arranged, comes_first, in_order}
+use Rattle.queues.specs.Queues.{Stored, Queue, item_of, next, name_bytes, record_count, payloads_of, payload_bytes, rising, queue_arranged, comes_first, in_order}
 use Rattle.queues.specs.Layout.{meaning}
 use Rattle.queues.proofs.ArrangedFacts.{Arrangement, arranged_arrangement}
 use Rattle.queues.proofs.SumsHeld.{queues_held_lem, names_held_lem, records_held_lem, payloads_held_lem}
@@ -106,12 +106,12 @@ record_short i h =
       numbered_short record_word i.position h,
     )
 
-records_short : (n : ℕ) (is : List Item) → rising n is ≡ true → length (record_lines is) ≤ 30 * length is + 2 * payloads_of is
+records_short : (n : ℕ) (is : List Stored) → rising n is ≡ true → length (record_lines is) ≤ 30 * length is + 2 * payloads_of is
 unfolding record_lines payloads_of
 records_short n [] h = omega arith
 records_short n (i ∷ is) h =
     omega
-    (arith, length-append (record_line i) (record_lines is), record_short i (omega (arith, (risen n i is h).high)), records_short (suc i.position) is (risen n i is h).rest)
+    (arith, length-append (record_line (item_of i)) (record_lines is), record_short (item_of i) (omega (arith, (risen n i is h).high)), records_short (suc i.position) is (risen n i is h).rest)
 
 queue_short : (q : Queue) → queue_arranged q ≡ true → length q.records < 2 ^ 64
     → length (queue_line q) + length (record_lines q.records) ≤ 87 + 2 * length q.name + (30 * length q.records + 2 * payloads_of q.records)

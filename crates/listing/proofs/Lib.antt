@@ -4,6 +4,7 @@ pub mod Parts
 pub mod Steps
 pub mod Counting
 pub mod Meanings
+pub mod Unlisted
 pub mod Examples
 pub mod Readback
 pub mod Rounding

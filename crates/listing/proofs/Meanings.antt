@@ -10,9 +10,9 @@ use lib.ListN.{length, take, drop, get_or, length-append}
 use borrow.Author.Tests.{eqb-true}
 use Rattle.std.specs.Prelude.{Option}
 use Rattle.std.proofs.lemmas.List.Sums.{count_by_more_yes, count_by_more_no}
-use Rattle.record.specs.Record.{Item, item}
+use Rattle.record.specs.Record.{item}
 use Rattle.queues.specs.declared.RecordEntry.{RecordEntry}
-use Rattle.queues.specs.Queues.{Queue, next}
+use Rattle.queues.specs.Queues.{Stored, stored, item_of, Queue, next}
 use Rattle.queues.specs.Layout.{Memory, memory, row_at, queues_held, records_held, rows_from, rows, arrivals, items_of, queues_from, meaning, nexts_true, arranged, blank}
 use Rattle.queues.specs.Changes.{word_at}
 use Rattle.queues.specs.Passes.{passed_to, names_to}
@@ -28,17 +28,17 @@ use Rattle.listing.proofs.Writes.{by_test, wrote-length, wrote, on, reads}
 
 -- ---- the entries of one queue
 
-lines_append : (is js : List Item) → record_lines (is ++ js) ≡ record_lines is ++ record_lines js
+lines_append : (is js : List Stored) → record_lines (is ++ js) ≡ record_lines is ++ record_lines js
 unfolding record_lines
 lines_append [] js = refl
-lines_append (i ∷ is) js = ap (λ (l : List ℕ). record_line i ++ l) (lines_append is js) ∙ sym (append_assoc (record_line i) (record_lines is) (record_lines js))
+lines_append (i ∷ is) js = ap (λ (l : List ℕ). record_line (item_of i) ++ l) (lines_append is js) ∙ sym (append_assoc (record_line (item_of i)) (record_lines is) (record_lines js))
 
 module _ (k : ℕ) (es : List RecordEntry) (ps : List ℕ) where
   one_line : (e : RecordEntry) (p : ℕ) → record_lines (one k es ps e p) ≡ entry_line k e (take e.length (drop p ps))
   unfolding record_lines entry_line items_of arrivals
   one_line e p = on_test (eqb e.queue k)
     where
-      on_test : (b : Bool) → record_lines (cond b (item e.position (take e.length (drop p ps)) ∷ []) []) ≡ cond b (record_line (item e.position (take e.length (drop p ps)))) []
+      on_test : (b : Bool) → record_lines (cond b (stored e.position (take e.length (drop p ps)) e.block ∷ []) []) ≡ cond b (record_line (item e.position (take e.length (drop p ps)))) []
       on_test true = append-nil (record_line (item e.position (take e.length (drop p ps))))
       on_test false = refl
 
@@ -46,7 +46,7 @@ module _ (k : ℕ) (es : List RecordEntry) (ps : List ℕ) where
   unfolding items_of arrivals
   one_count e p n = on_test (eqb e.queue k)
     where
-      on_test : (b : Bool) → n + length (cond b (item e.position (take e.length (drop p ps)) ∷ []) []) ≡ cond b (n + 1) n
+      on_test : (b : Bool) → n + length (cond b (stored e.position (take e.length (drop p ps)) e.block ∷ []) []) ≡ cond b (n + 1) n
       on_test true = refl
       on_test false = omega arith
 

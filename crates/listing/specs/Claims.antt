@@ -3,9 +3,9 @@
 -- Assumes nothing.
 use Rattle.std.specs.Prelude.{◌≡◌, true, cond, List, [], ◌∷◌, ◌++◌, map, ℕ, ◌+◌, ◌*◌, ◌-◌, ◌^◌, ◌≤◌, ◌<◌, ◌/◌, ◌%◌, ltb, length, take, get_or}
 use Rattle.slices.specs.Bytes.{Bytes}
-use Rattle.record.specs.Record.{item}
 use Rattle.slices.specs.Put.{put}
-use Rattle.queues.specs.Queues.{Queue, queue, name_bytes, record_count, payload_bytes, in_order}
+use Rattle.queues.specs.Queues.{stored, Queue, queue, name_bytes, record_count, payload_bytes, in_order}
+use Rattle.queues.specs.Unblocked.{unblocked}
 use Rattle.queues.specs.Layout.{Memory, meaning, arranged}
 use Rattle.listing.specs.Digits.{hex_run, decimal}
 use Rattle.listing.specs.Writing.{written}
@@ -13,9 +13,9 @@ use Rattle.listing.specs.Listing.{shift_lines, whole_bytes, half_even, fill_tent
 
 -- ---- 01's example
 
--- after create "a" and an append of "one" and an empty payload
+-- after create "a" and an append of "one" and an empty payload, all in block 0
 abbrev pub example_queue : Queue
-example_queue = queue (97 ∷ []) 0 (item 0 (111 ∷ 110 ∷ 101 ∷ []) ∷ item 1 [] ∷ [])
+example_queue = queue (97 ∷ []) 0 (stored 0 (111 ∷ 110 ∷ 101 ∷ []) 0 ∷ stored 1 [] 0 ∷ [])
 
 -- "queues 1"
 abbrev pub example_line1 : List ℕ
@@ -62,6 +62,12 @@ ShiftTexts = shift_lines (2 ∷ 0 ∷ 0xFFFFFFFFFFFFFFFF ∷ []) ≡ 115 ∷ 104
 -- "refused 14"
 abbrev pub RefusalText : Type 0
 RefusalText = refusal 14 ≡ 114 ∷ 101 ∷ 102 ∷ 117 ∷ 115 ∷ 101 ∷ 100 ∷ 32 ∷ 49 ∷ 52 ∷ 10 ∷ []
+
+-- ---- what is not listed
+
+-- queues that are equal but for block numbers (02, Ticket 10) have one text
+abbrev pub BlocksUnlisted : Type 0
+BlocksUnlisted = (qs qs' : List Queue) (lost resumed n : ℕ) → map unblocked qs ≡ map unblocked qs' → listing qs lost resumed n ≡ listing qs' lost resumed n
 
 -- ---- numbers and bytes can be read back
 

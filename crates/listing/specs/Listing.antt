@@ -4,7 +4,7 @@
 -- Assumes nothing.
 use Rattle.std.specs.Prelude.{cond, List, [], ◌∷◌, ◌++◌, ℕ, ◌+◌, ◌*◌, ◌/◌, ◌%◌, ltb, length}
 use Rattle.record.specs.Record.{Item}
-use Rattle.queues.specs.Queues.{Queue, next}
+use Rattle.queues.specs.Queues.{Stored, Queue, item_of, next}
 use Rattle.listing.specs.Digits.{hex, decimal}
 
 -- ---- the words, each with the spaces around it
@@ -84,9 +84,10 @@ queue_line q = head_line q.name q.start (next q) (length q.records)
 unfoldable pub record_line : Item → List ℕ
 record_line i = numbered record_word i.position ++ (space ++ (hex i.payload ++ line_feed))
 
-unfoldable pub record_lines : List Item → List ℕ
+-- of held records: their blocks are not listed
+unfoldable pub record_lines : List Stored → List ℕ
 record_lines [] = []
-record_lines (i ∷ is) = record_line i ++ record_lines is
+record_lines (i ∷ is) = record_line (item_of i) ++ record_lines is
 
 -- "queues go in byte order of names, records by position": as the list and its queues have them
 unfoldable pub queue_lines : List Queue → List ℕ

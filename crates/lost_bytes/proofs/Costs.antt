@@ -31,26 +31,26 @@ use Rattle.lost_bytes.proofs.Events.{Sized, good, corrupted, lost_blind, weighed
 
 abbrev Sevens : List Sized → Type 0
 Sevens [] = Unit {0}
-Sevens (good t xs z ∷ es) = (7 ≤ z) × Sevens es
+Sevens (good t xs z q ∷ es) = (7 ≤ z) × Sevens es
 Sevens (corrupted c z ∷ es) = (7 ≤ z) × Sevens es
 
 sevens : (log : List ℕ) {r : Reader} {es : List Sized} → Arranged log r → SeesSized log r es → Sevens es
 sevens log a (none e) = tt
 sevens log {r} a (bad c z e f s) =
     (subst (λ (i : ℕ). 7 ≤ i) f ((frame_passes log r a).seven (not_corrupt (read_frame log r).answer c e)), sevens log (onward log r a).arranged s)
-sevens log {r} a (fine t p n xs z e d f s) =
+sevens log {r} a (fine t p n xs z q e d f g s) =
     (subst (λ (i : ℕ). 7 ≤ i) f ((frame_passes log r a).seven (not_sound_lem (read_frame log r).answer t p n e)), sevens log (onward log r a).arranged s)
 
 -- ---- the same frames give the answers
 
 abbrev pub unsized : Sized → Event
-unsized (good t xs z) = Plain.good t xs
+unsized (good t xs z q) = Plain.good t xs q
 unsized (corrupted c z) = Plain.corrupted c
 
 pub to_sees : (log : List ℕ) {r : Reader} {es : List Sized} → SeesSized log r es → Sees log Any r (map unsized es)
 to_sees log (none e) = Plain.none e tt
 to_sees log (bad c z e f s) = Plain.bad c e tt (to_sees log s)
-to_sees log (fine t p n xs z e d f s) = Plain.fine t p n xs e d (to_sees log s)
+to_sees log (fine t p n xs z q e d f g s) = Plain.fine t p n xs q e d g (to_sees log s)
 
 -- ---- answers and what they cost
 
@@ -81,7 +81,7 @@ loss_costs : (limit : ℕ) (es : List Sized) (b : Begun) (t : Tally) → Sevens 
 unfolding assemble sum_of lost_of lost_by lost_in answer_of gather
 loss_costs limit [] b t w = omega arith
 loss_costs limit (corrupted c z ∷ es) b t w = omega (arith, loss_costs limit es idle no_tally w.1, w.0)
-loss_costs limit (good k xs z ∷ es) b t w =
+loss_costs limit (good k xs z q ∷ es) b t w =
     joined_costs limit (assemble limit (map unsized es)) (sum_of lost_of limit es) (λ g u. loss_costs limit es g u w.1) k xs z w.0 b t (begins k)
 
 -- ---- of a log

@@ -28,9 +28,9 @@ use Rattle.recordlog.proofs.Sees as Plain
 use Rattle.calls.specs.Lost.{lost_of, on_sum, sum_reads, sum_from}
 use Rattle.lost_bytes.specs.Given.{given_of}
 
--- a frame as it is read, and its bytes
+-- a frame as it is read, and its bytes; a sound one with the place of its header
 pub data Sized : Type 0 where
-  good : FrameType → List ℕ → ℕ → Sized
+  good : FrameType → List ℕ → ℕ → ℕ → Sized
   corrupted : Corruption → ℕ → Sized
 
 -- ---- the sum over the reads that frames make
@@ -69,7 +69,7 @@ joined_sum w limit k (within ys) t go = weighed_sum w (leb (length ys) limit) (e
 unfoldable pub sum_of : (Answer → Tally → ℕ) → ℕ → List Sized → Begun → Tally → ℕ
 sum_of w limit [] b t = w end_of_log (tally (t.lost + t.taken) 0 0)
 sum_of w limit (corrupted c z ∷ es) b t = w (corruption c) (tally (t.lost + t.taken + z) 0 0) + sum_of w limit es idle no_tally
-sum_of w limit (good k xs z ∷ es) b t = joined_sum w limit k (gather b k xs) (take_up (begins k) b z 0 t) (sum_of w limit es)
+sum_of w limit (good k xs z q ∷ es) b t = joined_sum w limit k (gather b k xs) (take_up (begins k) b z 0 t) (sum_of w limit es)
 
 -- ---- what a reader sees
 
@@ -77,15 +77,15 @@ pub data SeesSized (log : List ℕ) : Reader → List Sized → Type 0 where
   none : {r : Reader} → (read_frame log r).answer ≡ not_available → SeesSized log r []
   bad : {r : Reader} {es : List Sized} (c : Corruption) (z : ℕ) → (read_frame log r).answer ≡ corrupt c → frame_size log r ≡ z
       → SeesSized log (read_frame log r).reader es → SeesSized log r (corrupted c z ∷ es)
-  fine : {r : Reader} {es : List Sized} (t : FrameType) (s n : ℕ) (xs : List ℕ) (z : ℕ) → (read_frame log r).answer ≡ sound t s n → take n (drop s log) ≡ xs
-      → frame_size log r ≡ z → SeesSized log (read_frame log r).reader es → SeesSized log r (good t xs z ∷ es)
+  fine : {r : Reader} {es : List Sized} (t : FrameType) (s n : ℕ) (xs : List ℕ) (z q : ℕ) → (read_frame log r).answer ≡ sound t s n → take n (drop s log) ≡ xs
+      → frame_size log r ≡ z → s - 7 ≡ q → SeesSized log (read_frame log r).reader es → SeesSized log r (good t xs z q ∷ es)
 
 -- no more frames than lie ahead
 pub sized_ahead : (log : List ℕ) {r : Reader} {es : List Sized} → Arranged log r → SeesSized log r es → length es ≤ ahead log r
 sized_ahead log a (none e) = omega arith
 sized_ahead log {r} a (bad c z e f s) =
     omega (arith, sized_ahead log (onward log r a).arranged s, ahead_falls log r a (not_corrupt (read_frame log r).answer c e))
-sized_ahead log {r} a (fine t p n xs z e d f s) =
+sized_ahead log {r} a (fine t p n xs z q e d f g s) =
     omega (arith, sized_ahead log (onward log r a).arranged s, ahead_falls log r a (not_sound_lem (read_frame log r).answer t p n e))
 
 -- every reader sees some list of frames
@@ -97,8 +97,10 @@ see log r on = go (read_frame log r).answer refl
     go (Err no_frame) e = ([], none e)
     go (Err (bad_frame c)) e = let x = on (not_corrupt (read_frame log r).answer c e) in (corrupted c (frame_size log r) ∷ x.0, bad c (frame_size log r) e refl x.1)
     go (Ok f) e =
-        let x = on (not_sound_lem (read_frame log r).answer f.kind f.start f.len e) in
-        (good f.kind (take f.len (drop f.start log)) (frame_size log r) ∷ x.0, fine f.kind f.start f.len (take f.len (drop f.start log)) (frame_size log r) e refl refl x.1)
+        let x = on (not_sound_lem (read_frame log r).answer f.kind f.start f.len e) in (
+          good f.kind (take f.len (drop f.start log)) (frame_size log r) (f.start - 7) ∷ x.0,
+          fine f.kind f.start f.len (take f.len (drop f.start log)) (frame_size log r) (f.start - 7) e refl refl refl x.1,
+        )
 
 sees_within : (k : ℕ) (log : List ℕ) (r : Reader) → Arranged log r → ahead log r ≤ k → (es : List Sized) × SeesSized log r es
 sees_within zero log r a h = see log r (λ n. absurd (omega (arith, ahead_falls log r a n)))
@@ -120,15 +122,15 @@ size_sound log r t s n xs a e d =
 
 -- a frame seen, where each corruption is about n bytes
 abbrev pub sizing : ℕ → Event → Sized
-sizing n (Plain.good t xs) = good t xs (7 + length xs)
+sizing n (Plain.good t xs q) = good t xs (7 + length xs) q
 sizing n (Plain.corrupted c) = corrupted c n
 
 pub to_sized : (log : List ℕ) (n : ℕ) {Z : Reader → Type 0} {r : Reader} {es : List Event} → Arranged log r → SeesBy log (λ r c. frame_size log r ≡ n) Z r es
     → SeesSized log r (map (sizing n) es)
 to_sized log n a (Plain.none e z) = none e
 to_sized log n {r = r} a (Plain.bad c e q s) = bad c n e q (to_sized log n (onward log r a).arranged s)
-to_sized log n {r = r} a (Plain.fine t p i xs e d s) =
-    fine t p i xs (7 + length xs) e d (size_sound log r t p i xs a e d) (to_sized log n (onward log r a).arranged s)
+to_sized log n {r = r} a (Plain.fine t p i xs q e d f s) =
+    fine t p i xs (7 + length xs) q e d (size_sound log r t p i xs a e d) f (to_sized log n (onward log r a).arranged s)
 
 -- ---- the sum over the reads is that over the frames seen
 
@@ -175,9 +177,9 @@ module _ (w : Answer → Tally → ℕ) (blind : Blind w) where
       ap (λ (x : FrameAnswer). onward_sum w (suc n) log limit (on_frame log limit first b x (read_frame log r).reader (next m log limit first))
       (on_tally log limit b t x (frame_size log r) (tallies m log limit (read_frame log r).reader))) e
       ∙ ap₂ (λ (i j : ℕ). w (corruption c) (tally (t.lost + t.taken + i) 0 0) + j) f g
-  fused log limit a (fine k p i xs z e d f s) n zero first b t lm ln = absurd (omega arith)
-  fused log limit a (fine k p i xs z e d f s) zero (suc m) first b t lm ln = absurd (omega arith)
-  fused log limit {r} a (fine {es = es} k p i xs z e d f s) (suc n) (suc m) first b t lm ln =
+  fused log limit a (fine k p i xs z q e d f h s) n zero first b t lm ln = absurd (omega arith)
+  fused log limit a (fine k p i xs z q e d f h s) zero (suc m) first b t lm ln = absurd (omega arith)
+  fused log limit {r} a (fine {es = es} k p i xs z q e d f h s) (suc n) (suc m) first b t lm ln =
       ap (λ (x : FrameAnswer). onward_sum w (suc n) log limit (on_frame log limit first b x (read_frame log r).reader (next m log limit first))
       (on_tally log limit b t x (frame_size log r) (tallies m log limit (read_frame log r).reader))) e
       ∙ ap₂ (λ (ys : List ℕ) (j : ℕ). onward_sum w (suc n) log limit (join limit k first (gather b k ys) (read_frame log r).reader (next m log limit first))

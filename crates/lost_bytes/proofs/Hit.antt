@@ -38,7 +38,7 @@ use Rattle.calls.proofs.Answers.{Formed}
 use Rattle.calls.proofs.Follows.{encodings, encodings_append, Owns, Standing, log_size}
 use Rattle.calls.proofs.Steps.{follows}
 use Rattle.calls.proofs.Runs.{same_records, log_legal, each_limit}
-use Rattle.calls.proofs.OneHit.{owns_from, hit_length}
+use Rattle.calls.proofs.ListParts.{owns_from, hit_length}
 use Rattle.lost_bytes.specs.Costs.{unstruck_bytes, others_of, others_in, hit_cost}
 use Rattle.lost_bytes.specs.Claims.{Decodes, RecordsLoseNothing, StatesLoseNothing, StatesHitCosts}
 use Rattle.lost_bytes.proofs.Events.{Sized, corrupted, lost_blind, sizing, to_sized, sum_of, sum_sees}

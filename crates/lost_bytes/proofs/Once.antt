@@ -43,8 +43,8 @@ seen_sees log a (bad c z e f s) zero h = absurd (omega arith)
 seen_sees log {r} a (bad c z e f s) (suc k) h =
     ap (λ (x : FrameAnswer). on_seen x (frame_size log r) (read_frame log r).reader (seen_times k log)) e
     ∙ ap₂ ◌+◌ f (seen_sees log (onward log r a).arranged s k (omega arith))
-seen_sees log a (fine t p n xs z e d f s) zero h = absurd (omega arith)
-seen_sees log {r} a (fine t p n xs z e d f s) (suc k) h =
+seen_sees log a (fine t p n xs z q e d f g s) zero h = absurd (omega arith)
+seen_sees log {r} a (fine t p n xs z q e d f g s) (suc k) h =
     ap (λ (x : FrameAnswer). on_seen x (frame_size log r) (read_frame log r).reader (seen_times k log)) e
     ∙ ap₂ ◌+◌ f (seen_sees log (onward log r a).arranged s k (omega arith))
 
@@ -84,7 +84,7 @@ once : (limit : ℕ) (es : List Sized) (b : Begun) (t : Tally) → Taken (assemb
 unfolding assemble sum_of lost_of given_of sizes size_at answer_of refused_in
 once limit [] b t h = omega arith
 once limit (corrupted c z ∷ es) b t h = omega (arith, once limit es idle no_tally h)
-once limit (good k xs z ∷ es) b t h =
+once limit (good k xs z q ∷ es) b t h =
     omega (
       arith,
       joined_once (sizes es) limit (assemble limit (map unsized es)) (sum_of lost_of limit es) (sum_of given_of limit es) (once limit es) k (gather b k xs) (take_up (begins k) b z 0 t) h,

@@ -28,7 +28,7 @@ use Rattle.lost_bytes.proofs.Events.{Sized, good, corrupted, weighed_sum, joined
 
 -- a frame, and its bytes
 abbrev pub sz : Frame → Sized
-sz f = good f.kind f.content (7 + length f.content)
+sz f = good f.kind f.content (7 + length f.content) f.start
 
 pub sized_append : (fs gs : List Frame) → map sz (fs ++ gs) ≡ map sz fs ++ map sz gs
 sized_append [] gs = refl

@@ -20,7 +20,7 @@ use Rattle.calls.specs.Machine.{Listed}
 use Rattle.calls.proofs.Follows.{encodings, Owns, Standing}
 use Rattle.calls.proofs.Steps.{follows}
 use Rattle.calls.proofs.Runs.{same_records}
-use Rattle.calls.proofs.OneHit.{owns_from}
+use Rattle.calls.proofs.ListParts.{owns_from}
 use Rattle.lost_bytes.specs.Costs.{struck_bytes, struck_in}
 use Rattle.lost_bytes.specs.Claims.{StruckParts, StatesStruckWithin}
 use Rattle.lost_bytes.proofs.Hit.{struck-before, struck_self}

@@ -30,7 +30,7 @@ use Rattle.lost_bytes.proofs.Events.{Sized, good, corrupted, lost_blind, weighed
 -- ---- the sizes of the frames seen
 
 unfoldable pub size_at : Sized → ℕ
-size_at (good t xs z) = z
+size_at (good t xs z q) = z
 size_at (corrupted c z) = z
 
 unfoldable pub sizes : List Sized → ℕ
@@ -41,7 +41,7 @@ pub sizes_within : (log : List ℕ) {r : Reader} {es : List Sized} → Arranged 
 unfolding sizes size_at
 sizes_within log {r} a (none e) = omega (arith, passed_most r a.within, a.inside)
 sizes_within log {r} a (bad c z e f s) = omega (arith, (frame_passes log r a).passes, sizes_within log (onward log r a).arranged s)
-sizes_within log {r} a (fine t p n xs z e d f s) = omega (arith, (frame_passes log r a).passes, sizes_within log (onward log r a).arranged s)
+sizes_within log {r} a (fine t p n xs z q e d f g s) = omega (arith, (frame_passes log r a).passes, sizes_within log (onward log r a).arranged s)
 
 -- ---- no more is lost than the frames have
 
@@ -66,7 +66,7 @@ loss_most : (limit : ℕ) (es : List Sized) (b : Begun) (t : Tally) → sum_of l
 unfolding sum_of lost_of sizes size_at
 loss_most limit [] b t = omega arith
 loss_most limit (corrupted c z ∷ es) b t = omega (arith, loss_most limit es idle no_tally)
-loss_most limit (good k xs z ∷ es) b t =
+loss_most limit (good k xs z q ∷ es) b t =
     omega (arith, joined_most (sizes es) limit (sum_of lost_of limit es) (loss_most limit es) k (gather b k xs) (take_up (begins k) b z 0 t), take-total (begins k) b z 0 t)
 
 -- ---- of a log

@@ -2,12 +2,13 @@
 // Kept: the C interface lends the memory in parts, and is told the values of an answer one by one.
 ghost use Rattle.std.specs.Prelude.{◌≡◌};
 ghost use Rattle.calls.specs.Refused.{numbered};
-ghost use Rattle.contracts.specs.Numbers.{positions_numbers, largest_numbers};
+ghost use Rattle.contracts.specs.Numbers.{positions_numbers, largest_numbers, first_block_numbers};
 ghost use Rattle.abi_call.specs.OnBytes.{memory_bytes};
 ghost use Rattle.abi_largest.specs.Numbers.{numbers};
 ghost use Rattle.abi_tables.specs.Tables.{memory_in};
-ghost use Rattle.mrecordlog.specs.Told.{bound_of, range_told, tell_range, positions_told, tell_positions, largest_told, tell_largest};
-ghost use Rattle.mrecordlog.specs.Exported.{RangeExported, PositionsExported, LargestExported};
+ghost use Rattle.mrecordlog.specs.Told.{bound_of, range_told, tell_range, positions_told, tell_positions};
+ghost use Rattle.mrecordlog.specs.Told.{largest_told, tell_largest, first_block_told, tell_first_block};
+ghost use Rattle.mrecordlog.specs.Exported.{RangeExported, PositionsExported, LargestExported, FirstBlockExported};
 
 use multi_record_log::{HeldMemory, QuestionAnswer, Refusal};
 use std::ops::Bound;
@@ -105,6 +106,23 @@ fn tell_largest(
     }
 }
 
+#[tactic(auto, unfolding(crate::specs::Told::tell_first_block, crate::specs::Told::tell_block, contracts::specs::Numbers::first_block_numbers))]
+fn tell_first_block(answer: Result<Option<u64>, Refusal>, found: &mut u64, block: &mut u64) -> u64
+    ensures { first_block_told result found.new block.new ≡ tell_first_block (first_block_numbers answer) }
+{
+    *found = 0;
+    *block = 0;
+    match answer {
+        Ok(Some(lowest)) => {
+            *found = 1;
+            *block = lowest;
+            0
+        }
+        Ok(None) => 0,
+        Err(refusal) => refusal.number(),
+    }
+}
+
 #[unsafe(no_mangle)]
 pub extern "C" fn mrecordlog_range(
     names: &[u8],
@@ -198,4 +216,30 @@ pub extern "C" fn mrecordlog_largest(
     };
     let answer = multi_record_log::largest(memory, name);
     tell_largest(answer, found, length, position)
+}
+
+#[unsafe(no_mangle)]
+pub extern "C" fn mrecordlog_first_block(
+    names: &[u8],
+    payloads: &[u8],
+    entries: &[u8],
+    largest: &[u8],
+    table: &[u8],
+    found: &mut u64,
+    block: &mut u64,
+) -> u64
+    ensures { FirstBlockExported
+        (memory_in (memory_bytes names.now payloads.now entries.now largest.now table.now))
+        (numbers largest.now)
+        (first_block_told result found.new block.new) }
+{
+    let memory = HeldMemory {
+        names,
+        payloads,
+        entries,
+        largest,
+        table,
+    };
+    let answer = multi_record_log::first_block(memory);
+    tell_first_block(answer, found, block)
 }

@@ -1,2 +1,3 @@
 pub mod QuestionsKept
 pub mod RangeFound
+pub mod BlockKept

@@ -5,7 +5,7 @@
 use std::io::Read;
 
 // The first 65,536 bytes of the input, as far as they can be read.
-// Kept: no plainer: `test_calls` and `test_rust_answers` are one program over two inputs, and a crate has one stdin and one stdout.
+// Kept: no plainer: `test_calls`, `test_blocks` and `test_rust_answers` are one program over three inputs, and a crate has one stdin and one stdout.
 fn main(rt: HostRuntime) {
     let mut list = Vec::new(rt.alloc());
     let _ = rt.stdin().take(65536).read_to_end(&mut list);

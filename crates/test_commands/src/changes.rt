@@ -5,7 +5,7 @@ use crate::answers::{say, say_crc, text};
 use crate::bytes::fill;
 use crate::command::{Change, Set, Show};
 use crate::line::Line;
-use crate::memory::{Memory, table_word};
+use crate::memory::{Memory, block_word, table_word};
 
 // The number at a place of memory, in 8 bytes, where it has that place.
 fn put_number(s: &mut [u8], place: usize, n: u64) {
@@ -26,6 +26,11 @@ pub fn do_set(memory: &mut Memory<'_>, set: Set, line: Line<'_>) {
         Set::Move => *writer.write_position = line.place(),
         Set::Keep => put_number(queues.largest, line.place(), line.number_or_0(b"number")),
         Set::Soil => queues.largest.fill(170),
+        Set::Block => put_number(
+            queues.entries,
+            block_word(line.place()),
+            line.number_or_0(b"number"),
+        ),
         Set::Queues => put_number(queues.table, 0, line.number_or_0(b"queues")),
     }
 }

@@ -37,15 +37,18 @@ pub enum Ask {
     First,
     Ranges,
     Largest,
+    FirstBlock,
+    Blocks,
     Queues,
 }
 
-// Replay and reads.
+// Replay, reads and a copy.
 #[derive(Clone, Copy)]
 pub enum Look {
     Replay,
     Reopen,
     Reads,
+    Copy,
 }
 
 // What a case starts from.
@@ -56,6 +59,7 @@ pub enum Set {
     Move,
     Keep,
     Soil,
+    Block,
     Queues,
 }
 
@@ -99,15 +103,19 @@ impl TryFrom<&[u8]> for Command {
             b"first" => Command::Ask(Ask::First),
             b"ranges" => Command::Ask(Ask::Ranges),
             b"largest" => Command::Ask(Ask::Largest),
+            b"first_block" => Command::Ask(Ask::FirstBlock),
+            b"blocks" => Command::Ask(Ask::Blocks),
             b"queues" => Command::Ask(Ask::Queues),
             b"replay" => Command::Look(Look::Replay),
             b"reopen" => Command::Look(Look::Reopen),
             b"reads" => Command::Look(Look::Reads),
+            b"copy" => Command::Look(Look::Copy),
             b"start" => Command::Set(Set::Start),
             b"stain" => Command::Set(Set::Stain),
             b"move" => Command::Set(Set::Move),
             b"keep" => Command::Set(Set::Keep),
             b"soil" => Command::Set(Set::Soil),
+            b"block" => Command::Set(Set::Block),
             b"set" => Command::Set(Set::Queues),
             b"xor" => Command::Change(Change::Xor),
             b"cut" => Command::Change(Change::Cut),

@@ -10,12 +10,14 @@
 //                         the answer, with the sum of the two counts of bytes; with the word `counts` both of them, frame bytes + padding bytes; with the word
 //                         `same` at the end also whether all that is lent is left as it was
 //   mark shift N clock N  the same of a mark, which names no queue
-//   positions NAME, first NAME [after P], ranges NAME from P to P, largest NAME, queues
-//                         questions: the first record of a queue; that of nine ranges; its largest payload; all queues with their records
+//   positions NAME, first NAME [after P], ranges NAME from P to P, largest NAME, first_block, blocks, queues
+//                         questions: the first record of a queue; that of nine ranges; its largest payload; the lowest block that a record held has; the
+//                         block of each, as the record table has it; all queues with their records
 //   replay, reopen, reads   replay; replay and all queues; all reads up to the end of the log. Writing goes on where a replay resumes
-//   stain, move at N, keep number N at N, soil, set queues N
-//                         the scratch filled with aa hex; the write position; one number of the further table; that table filled with aa hex; the number
-//                         of queues in the table
+//   copy                  a copy of what is held, its replay into other memory, and the blocks there
+//   stain, move at N, keep number N at N, soil, block number N at N, set queues N
+//                         the scratch filled with aa hex; the write position; one number of the further table; that table filled with aa hex; the block
+//                         of one entry of the record table; the number of queues in the table
 //   xor at N by N, cut at N, put BYTES at N, fill bytes N at N seed N
 //                         the log changed: one byte; zeros from there on; bytes; a run of bytes
 //   place, held, scratch, log   the write position; queues and name bytes held; whether the scratch is zero; CRC-32 of the log

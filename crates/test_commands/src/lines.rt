@@ -52,16 +52,7 @@ fn do_line(store: &mut Store, line: Line<'_>, lent: Lent) -> Lent {
 }
 
 pub fn run(list: &[u8]) {
-    let mut store = Store {
-        log: [0; 98304],
-        write_position: 0,
-        scratch: [0; 98304],
-        names: [0; 32768],
-        payloads: [0; 98304],
-        entries: [0; 48000],
-        largest: [0; 9000],
-        table: [0; 2000],
-    };
+    let mut store = Store::fresh();
     let mut lent = Lent::ALL;
     for line in list.split_inclusive(|b| *b == b'\n') {
         let text = line.strip_suffix(b"\n").unwrap_or(line);

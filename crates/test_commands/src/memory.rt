@@ -80,6 +80,20 @@ fn first(s: &mut [u8], n: u64) -> &mut [u8] {
 }
 
 impl Store {
+    // A zero log, no queues, write position 0.
+    pub fn fresh() -> Store {
+        Store {
+            log: [0; 98304],
+            write_position: 0,
+            scratch: [0; 98304],
+            names: [0; 32768],
+            payloads: [0; 98304],
+            entries: [0; 48000],
+            largest: [0; 9000],
+            table: [0; 2000],
+        }
+    }
+
     // As much of each memory as is lent.
     pub fn lend(&mut self, lent: Lent) -> Memory<'_> {
         let Store {
@@ -123,7 +137,12 @@ impl Memory<'_> {
     }
 }
 
-// A word of the table of queues, 0 where there is none.
+// The word of the record table that is the block of this entry, of the first 1,024.
+pub fn block_word(entry: usize) -> usize {
+    4 * entry.min(1023) + 3
+}
+
+// A word of the table of queues or of the record table, 0 where there is none.
 pub fn table_word(table: &[u8], k: usize) -> u64 {
     if k < table.len() / 8 {
         fields::u64_at(table, 8 * k)

@@ -2,8 +2,10 @@
 use crate::answers::{refused, say, say_bytes, say_record, text};
 use crate::command::Ask;
 use crate::line::Line;
-use crate::memory::table_word;
-use multi_record_log::{HeldMemory, Payload, QuestionAnswer, Refusal, largest, positions, range};
+use crate::memory::{block_word, table_word};
+use multi_record_log::{
+    HeldMemory, Payload, QuestionAnswer, Refusal, first_block, largest, positions, range,
+};
 use std::ops::Bound;
 
 fn say_answer(payloads: &[u8], answer: Result<QuestionAnswer, Refusal>) {
@@ -56,6 +58,22 @@ fn ranges(memory: HeldMemory<'_, u8, u8>, name: &[u8], line: Line<'_>) {
     text(b"\n");
 }
 
+fn say_first_block(answer: Result<Option<u64>, Refusal>) {
+    match answer {
+        Ok(Some(block)) => say(b" first block ", block),
+        Ok(None) => text(b" no first block"),
+        Err(refusal) => refused(refusal),
+    }
+}
+
+// The blocks of the entries that are held, at most 1,024, in the order of the record table: of each the bytes 24 to 31.
+pub fn show_blocks(memory: HeldMemory<'_, u8, u8>) {
+    text(b" blocks");
+    for i in 0..table_word(memory.table, 2).min(1024) as usize {
+        say(b" ", table_word(memory.entries, block_word(i)));
+    }
+}
+
 // All records of a queue, one question after the other.
 fn show_records(memory: HeldMemory<'_, u8, u8>, name: &[u8]) {
     let mut lower = Bound::Unbounded;
@@ -94,6 +112,8 @@ pub fn ask(memory: HeldMemory<'_, u8, u8>, question: Ask, name: &[u8], line: Lin
         Ask::First => first(memory, name, line),
         Ask::Ranges => ranges(memory, name, line),
         Ask::Largest => say_answer(memory.payloads, largest(memory, name)),
+        Ask::FirstBlock => say_first_block(first_block(memory)),
+        Ask::Blocks => show_blocks(memory),
         Ask::Queues => show_queues(memory),
     }
 }

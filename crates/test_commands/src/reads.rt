@@ -1,10 +1,11 @@
-// Replay, and all reads of a log.
+// Replay, all reads of a log, and a copy of what is held.
 use crate::answers::{refused, replayed, say, say_part, say_record, text};
 use crate::command::Look;
-use crate::memory::{Memory, table_word};
-use crate::questions::show_queues;
+use crate::memory::{Lent, Memory, Store, table_word};
+use crate::questions::{show_blocks, show_queues};
 use multi_record_log::{
-    Corruption, LogWriter, Lost, MultiPlexedRecord, QueueMemory, ReadAnswer, Reader,
+    Corruption, HeldMemory, LogWriter, Lost, MultiPlexedRecord, QueueMemory, ReadAnswer, Reader,
+    Refusal,
 };
 use record::MultiRecord;
 
@@ -108,6 +109,24 @@ fn replay(writer: &mut LogWriter<'_>, queues: &mut QueueMemory<'_, u8, u8>) {
     }
 }
 
+// A copy into a log that is lent.
+fn copy_into(writer: &mut LogWriter<'_>, held: HeldMemory<'_, u8, u8>) -> Result<usize, Refusal> {
+    let log = &mut *writer.log;
+    multi_record_log::copy(log, writer.scratch, held)
+}
+
+// A copy of what is held, and its replay into memory that is lent beside the log.
+fn copy(memory: &mut Memory<'_>, held: HeldMemory<'_, u8, u8>) {
+    match copy_into(&mut memory.writer, held) {
+        Ok(end) => {
+            say(b" copied to ", end as u64);
+            replay(&mut memory.writer, &mut memory.queues);
+            show_blocks(memory.queues.held());
+        }
+        Err(refusal) => refused(refusal),
+    }
+}
+
 pub fn do_look(memory: &mut Memory<'_>, look: Look) {
     match look {
         Look::Replay => replay(&mut memory.writer, &mut memory.queues),
@@ -118,5 +137,6 @@ pub fn do_look(memory: &mut Memory<'_>, look: Look) {
             show_queues(memory.queues.held());
         }
         Look::Reads => show_reads(&mut memory.writer),
+        Look::Copy => copy(&mut Store::fresh().lend(Lent::ALL), memory.queues.held()),
     }
 }

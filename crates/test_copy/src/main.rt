@@ -21,7 +21,7 @@ const LONGEST_SCRATCH: usize = 131072;
 struct Queues {
     names: [u8; 98304],
     payloads: [u8; 98304],
-    entries: [u8; 24576],
+    entries: [u8; 32768],
     largest: [u8; 8192],
     table: [u8; 1568],
 }
@@ -184,7 +184,7 @@ fn run(rt: &(impl Print + AllocGlobal), case: Case, log: &[u8]) -> io::Result<()
     let mut queues = Queues {
         names: [0; 98304],
         payloads: [0; 98304],
-        entries: [0; 24576],
+        entries: [0; 32768],
         largest: [0; 8192],
         table: [0; 1568],
     };

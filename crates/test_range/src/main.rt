@@ -34,12 +34,13 @@ impl fmt::Display for Told {
     }
 }
 
-// A record of the queue.
+// A record of the queue, in block 0 of its log.
 fn entry(position: u64, length: usize) -> RecordEntry {
     RecordEntry {
         queue: 0,
         position,
         length,
+        block: 0,
     }
 }
 

@@ -6,13 +6,13 @@ use std::time::Instant;
 
 use host::cases::{self, List};
 use host::compare::lists::{lent, memory_unchanged};
-use host::compare::{means, number, same, same_bytes, zero, Checked, Tally};
+use host::compare::{in_blocks, means, number, same, same_bytes, zero, Checked, Tally};
 use host::frames;
 use host::layout;
-use host::machine::{Machine, Room};
+use host::machine::{blocks_left, Machine, Room};
 use host::oracle::{Folder, Oracle};
-use host::plain::{Call, Queues, Reader, Reading, Record, Type, BLOCK};
-use host::port::{self, Memory, Port};
+use host::plain::{Blocks, Call, Queues, Reader, Reading, Record, Type, BLOCK};
+use host::port::{self, Memory, Port, RECORDS};
 use host::random::Random;
 
 /// "Queues go out in byte order of their names: a touch at the start, then one append record for each held record, its position also in the header."
@@ -114,6 +114,7 @@ fn taken(log: &[u8], end: usize, scratch: usize, queues: &Queues, memory: &Memor
         same("answer of replay", &answer, &Ok((0, 0, resumed)))?;
     }
     means("queues of replay", &again, queues)?;
+    in_blocks("queues of replay", &again, &blocks_left(queues, Blocks::new(), &frames::begun(&log[..whole])))?;
     let garbage = random.bytes(log.len());
     let Some((second, second_end)) = copy(&garbage, &random.bytes(scratch), &again, tally)? else { return Err("the copy of a replayed copy is refused".to_string()) };
     tally.count("copies of replayed copies");
@@ -122,7 +123,7 @@ fn taken(log: &[u8], end: usize, scratch: usize, queues: &Queues, memory: &Memor
 
     let mut machine = Machine { list: vec![], queues: queues.clone(), place: end };
     let mut port = Port { log: log.to_vec(), write_position: end, scratch: random.bytes(scratch), memory: memory.clone() };
-    let room = Room { log: log.len(), scratch, names: memory.names.len(), payloads: memory.payloads.len(), queues: 64, records: 1024 };
+    let room = Room { log: log.len(), scratch, names: memory.names.len(), payloads: memory.payloads.len(), queues: 64, records: RECORDS };
     for _ in 0..random.from_to(1, 2) {
         let names: Vec<Vec<u8>> = queues.keys().cloned().chain([b"zz".to_vec()]).collect();
         let name = random.pick(&names).clone();
@@ -134,6 +135,7 @@ fn taken(log: &[u8], end: usize, scratch: usize, queues: &Queues, memory: &Memor
         tally.count("calls after");
         same("answer of a call after", &number(port::call(&mut port, &call)), &Ok(machine.feed(&call)))?;
     }
+    in_blocks("queues after them", &port.memory, &machine.blocks(layout::blocks(memory)))?;
     let mut reader = Reader::default();
     let mut own = random.bytes(machine.longest().max(scratch));
     let later = machine.list.iter().map(|listed| listed.record.clone());

@@ -6,12 +6,12 @@ use std::time::Instant;
 
 use host::cases::{self, List};
 use host::compare::lists::lent;
-use host::compare::{means, number, same, same_bytes, zero, Checked, Tally};
+use host::compare::{in_blocks, means, number, same, same_bytes, zero, Checked, Tally};
 use host::frames::{self, Frame};
 use host::layout;
 use host::machine::Machine;
 use host::oracle::{Folder, LogReader, Oracle};
-use host::plain::{Call, Corruption, Reader, Reading, BLOCK, HEADER};
+use host::plain::{Blocks, Call, Corruption, Reader, Reading, BLOCK, HEADER};
 use host::port::{self, Memory, Port};
 use host::random::Random;
 
@@ -75,8 +75,8 @@ fn read(log: &[u8], scratch: &mut [u8], expected: &[Reading], tally: &mut Tally)
     Ok(reader.place())
 }
 
-/// Replay in other memory of the same sizes, whatever it holds.
-fn replayed(list: &List, random: &mut Random, log: Vec<u8>, lost: u64, resumed: u64, machine: &Machine) -> Result<Port, String> {
+/// Replay in other memory of the same sizes, whatever it holds; `blocks` of the records that were held before the machine's list.
+fn replayed(list: &List, random: &mut Random, log: Vec<u8>, lost: u64, resumed: u64, machine: &Machine, blocks: Blocks) -> Result<Port, String> {
     let mut memory = Memory { names: random.bytes(list.names), payloads: random.bytes(list.payloads), ..Memory::new(0, 0) };
     random.fill(&mut memory.entries);
     random.fill(&mut memory.largest);
@@ -86,6 +86,7 @@ fn replayed(list: &List, random: &mut Random, log: Vec<u8>, lost: u64, resumed: 
     same("answer of replay", &number(port::replay_own(&mut port)), &Ok((lost, bytes, resumed)))?;
     zero("scratch after replay", &port.scratch)?;
     means("queues of replay", &port.memory, &machine.queues)?;
+    in_blocks("queues of replay", &port.memory, &machine.blocks(blocks))?;
     port.write_position = resumed as usize;
     Ok(port)
 }
@@ -144,7 +145,7 @@ impl Cut<'_> {
 
         let kept = if kind == Left::Complete { self.after } else { self.before };
         folder.fill(&log);
-        let mut port = replayed(self.list, random, log, matches!(given, Some(Reading::Corrupt(_))) as u64, resumed, kept)?;
+        let mut port = replayed(self.list, random, log, matches!(given, Some(Reading::Corrupt(_))) as u64, resumed, kept, Blocks::new())?;
         let mut rust = Oracle::open(folder).ok_or("the Rust does not open the cut log")?;
         same("queues of the Rust", &rust.queues(), &kept.queues)?;
 
@@ -171,7 +172,8 @@ impl Cut<'_> {
         drop(rust);
         let rust = Oracle::open(folder).ok_or("the Rust does not open the log written on")?;
         same("queues of the Rust, opened again", &rust.queues(), &machine.queues)?;
-        replayed(self.list, random, port.log, lost, resumed, &machine).map_err(|difference| format!("after writing on: {difference}")).map(drop)
+        let blocks = kept.blocks(Blocks::new());
+        replayed(self.list, random, port.log, lost, resumed, &machine, blocks).map_err(|difference| format!("after writing on: {difference}")).map(drop)
     }
 }
 

@@ -3,12 +3,12 @@
 
 use host::cases;
 use host::compare::logs::{self, Log};
-use host::compare::{means, number, same, same_bytes, zero, Checked, Tally};
+use host::compare::{in_blocks, means, number, same, same_bytes, zero, Checked, Tally};
 use host::frames::{self, Frame};
 use host::machine::{Machine, Room};
 use host::oracle::Folder;
-use host::plain::{Counts, Mark, Reading, BLOCK, LAST};
-use host::port::{self, Port, ENTRIES};
+use host::plain::{Blocks, Counts, Mark, Reading, BLOCK, LAST};
+use host::port::{self, Port, RECORDS};
 use host::random::Random;
 
 /// The list of what was written, with the frames of each.
@@ -63,7 +63,7 @@ fn list(random: &mut Random, tally: &mut Tally) -> Result<(Port, Machine, Writte
     let tail = if random.once_in(4) { random.below(BLOCK) } else { 0 };
     let log = blocks * BLOCK + tail;
     let scratch = if random.once_in(8) { random.below(40) } else { log };
-    let room = Room { log, scratch, names: 4_000, payloads: log, queues: 64, records: ENTRIES / 24 };
+    let room = Room { log, scratch, names: 4_000, payloads: log, queues: 64, records: RECORDS };
     let mut port = port::fresh(log, scratch, room.names, room.payloads);
     let mut machine = Machine::default();
     let mut written = vec![];
@@ -88,6 +88,7 @@ fn list(random: &mut Random, tally: &mut Tally) -> Result<(Port, Machine, Writte
         written.extend(machine.list[listed..].iter().map(|listed| (Reading::Record(listed.record.clone()), listed.frames.clone())));
     }
     means("queues", &port.memory, &machine.queues)?;
+    in_blocks("queues", &port.memory, &machine.blocks(Blocks::new()))?;
     Ok((port, machine, written))
 }
 
@@ -102,7 +103,8 @@ fn read_back(port: &Port, machine: &Machine, written: &Written) -> Checked {
     let mut memory = port::Memory::new(port.memory.names.len(), port.memory.payloads.len());
     let answer = number(port::replay(&port.log, &mut scratch, &mut memory)).map(|(lost, bytes, _)| (lost, bytes));
     same("corruption answers and bytes lost of a replay", &answer, &Ok((0, 0)))?;
-    means("queues of a replay", &memory, &machine.queues)
+    means("queues of a replay", &memory, &machine.queues)?;
+    in_blocks("queues of a replay", &memory, &machine.blocks(Blocks::new()))
 }
 
 /// The log hit in one frame, and cut behind so many of its bytes.

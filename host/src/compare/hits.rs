@@ -1,12 +1,12 @@
 //! Demand 3: every frame of a run hit in both ways, against the plain machine's prediction and the Rust's reader.
 
 use super::lists::lent;
-use super::{means, number, same, zero, Checked, Tally};
+use super::{in_blocks, means, number, same, zero, Checked, Tally};
 use crate::cases::{self, List};
-use crate::frames::{self, Frame};
+use crate::frames::{self, Begun, Frame};
 use crate::machine::{self, Listed, Machine, Room};
 use crate::oracle::{Folder, LogReader, Oracle};
-use crate::plain::{Queues, Reader, Reading};
+use crate::plain::{Blocks, Queues, Reader, Reading};
 use crate::port::{self, Port};
 use crate::random::Random;
 
@@ -51,9 +51,9 @@ fn one(port: &mut Port, list: &List, machine: &Machine, owner: usize, frame: Fra
     let (before, after) = machine.spared(owner, frame, kind);
     read(port, before, &after, tally)?;
     let room = Room { scratch: port.scratch.len(), ..list.room() };
-    let records = before.iter().chain(after.iter().copied()).map(|listed| &listed.record);
+    let kept: Vec<Begun> = before.iter().chain(after.iter().copied()).map(Listed::begun).collect();
     same("bytes lost, by the frames and by the text", &machine.cost(owner, frame, kind), &frames::lost_bytes(&port.log))?;
-    replay(port, machine::replay(records, &room), machine.cost(owner, frame, kind), folder, tally)
+    replay(port, &kept, &room, machine.cost(owner, frame, kind), folder, tally)
 }
 
 /// "The records listed before the hit frame's owner, one corruption, the records listed after the owner that own no struck frame, end of log."
@@ -75,9 +75,11 @@ fn read(port: &mut Port, before: &[Listed], after: &[&Listed], tally: &mut Tally
     Ok(())
 }
 
-/// "Replay .. gives the queues or the refusal that .. give for these records alone in that memory."
-fn replay(port: &mut Port, expected: Result<Queues, u64>, cost: u64, folder: &Folder, tally: &mut Tally) -> Checked {
+/// "Replay .. gives the queues or the refusal that .. give for these records alone in that memory." 02, Ticket 10: "each entry that replay makes has the block in which
+/// 01's list puts its log record's first frame header".
+fn replay(port: &mut Port, kept: &[Begun], room: &Room, cost: u64, folder: &Folder, tally: &mut Tally) -> Checked {
     tally.count("replays");
+    let expected = machine::replay(kept.iter().map(|begun| &begun.record), room);
     let mut memory = port.memory.clone();
     let answer = number(port::replay(&port.log, &mut port.scratch, &mut memory));
     zero("scratch after replay", &port.scratch)?;
@@ -89,6 +91,7 @@ fn replay(port: &mut Port, expected: Result<Queues, u64>, cost: u64, folder: &Fo
         Ok(queues) => {
             same("lost by replay", &answer.map(|(lost, bytes, _)| (lost, bytes)), &Ok((1, cost)))?;
             means("queues of replay", &memory, &queues)?;
+            in_blocks("queues of replay", &memory, &machine::blocks_left(&queues, Blocks::new(), kept))?;
             let rust = rust().ok_or("the Rust does not open the log")?;
             same("queues of the Rust", &rust.queues(), &queues)
         }

@@ -1,11 +1,11 @@
 //! Call lists: every answer, log byte, queue and record, of the port, the Rust and the plain machine.
 
-use super::{means, number, same, same_bytes, zero, Checked, Tally};
+use super::{in_blocks, means, number, same, same_bytes, zero, Checked, Tally};
 use crate::cases::{self, List, Step};
 use crate::frames;
 use crate::machine::{question_refusal, Machine};
 use crate::oracle::{Folder, LogReader, Oracle};
-use crate::plain::{Bound, Call, Done, Reader, Reading};
+use crate::plain::{Blocks, Bound, Call, Done, Reader, Reading};
 use crate::port::{self, Memory, Port, Refused};
 use crate::random::Random;
 
@@ -77,7 +77,13 @@ impl Run<'_> {
         same("write position", &self.port.write_position, &self.machine.place)?;
         self.same_log()?;
         same("queues of the Rust", &self.rust.queues(), &self.machine.queues)?;
-        means("queues", &self.port.memory, &self.machine.queues)
+        self.held()
+    }
+
+    /// The queues that the port's memory holds, each record in its block.
+    fn held(&self) -> Checked {
+        means("queues", &self.port.memory, &self.machine.queues)?;
+        in_blocks("queues", &self.port.memory, &self.machine.blocks(Blocks::new()))
     }
 
     /// The frames that a call will write, into the predicted log.
@@ -160,7 +166,7 @@ impl Run<'_> {
         self.machine.place = state.place() as usize;
         self.same_log()?;
         same("queues of the Rust", &self.rust.queues(), &self.machine.queues)?;
-        means("queues", &self.port.memory, &self.machine.queues)
+        self.held()
     }
 
     /// The log replayed into other memory of the same sizes, whatever it holds.
@@ -177,6 +183,7 @@ impl Run<'_> {
         zero("scratch", &scratch)?;
         same_bytes("log", &self.port.log, &self.log)?;
         means("queues", &memory, &self.machine.queues)?;
+        in_blocks("queues", &memory, &self.machine.blocks(Blocks::new()))?;
         let rust = Oracle::open(self.folder).ok_or("the Rust does not open the log")?;
         same("queues of the Rust", &rust.queues(), &self.machine.queues)
     }

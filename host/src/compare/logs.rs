@@ -1,12 +1,12 @@
 //! Logs of any bytes: every read with the reader it leaves, and the replay with the call that follows it.
 
-use super::{means, number, same, same_bytes, zero, Checked, Tally};
+use super::{in_blocks, means, number, same, same_bytes, zero, Checked, Tally};
 use crate::frames;
 use crate::layout;
 use crate::machine::{self, Machine, Room};
 use crate::oracle::{Folder, LogReader, Oracle};
-use crate::plain::{seen_before, Call, Queues, Reader, Reading, Type, BLOCK, LAST};
-use crate::port::{self, Memory, Port, ENTRIES};
+use crate::plain::{seen_before, Blocks, Call, Queues, Reader, Reading, Type, BLOCK, LAST};
+use crate::port::{self, Memory, Port, RECORDS};
 use crate::random::Random;
 
 /// A log, and how much is lent with it.
@@ -35,7 +35,7 @@ impl Log {
     }
 
     fn room(&self) -> Room {
-        Room { log: self.log.len(), scratch: self.scratch, names: self.names, payloads: self.payloads, queues: 64, records: ENTRIES / 24 }
+        Room { log: self.log.len(), scratch: self.scratch, names: self.names, payloads: self.payloads, queues: 64, records: RECORDS }
     }
 }
 
@@ -150,6 +150,9 @@ fn replay(case: &Log, folder: &Folder, tally: &mut Tally) -> Checked {
         tally.count("of them with no corruption answer");
     }
     means("queues", &port.memory, &queues)?;
+    let begun = frames::begun(&case.log);
+    let blocks = machine::blocks_left(&queues, Blocks::new(), &begun);
+    in_blocks("queues", &port.memory, &blocks)?;
     if wraps {
         tally.count("replays set aside");
         return Ok(());
@@ -163,7 +166,7 @@ fn replay(case: &Log, folder: &Folder, tally: &mut Tally) -> Checked {
     let mut rust = Oracle::open(folder).ok_or("the Rust does not open the log")?;
     same("queues of the Rust", &rust.queues(), &queues)?;
     port.write_position = resumed as usize;
-    follow(&mut port, &mut rust, folder, Machine { list: vec![], queues, place: resumed as usize }, case, tally)
+    follow(&mut port, &mut rust, folder, Machine { list: vec![], queues, place: resumed as usize }, blocks, case, tally)
 }
 
 /// The marks of a log whose reading meets no 11.
@@ -185,23 +188,28 @@ fn rust_counts(log: &[u8]) -> (u64, u64) {
     }
 }
 
-/// A call behind the replay, so that the place where the Rust resumes shows in its bytes.
-fn follow(port: &mut Port, rust: &mut Oracle, folder: &Folder, mut machine: Machine, case: &Log, tally: &mut Tally) -> Checked {
-    let call = Call::Create { name: b"zz".to_vec() };
-    let arranged = layout::place_arranged(port.write_position, case.log.len());
-    if let Some(refusal) = machine.refusal(&call, &case.room(), arranged) {
-        tally.refusal(refusal);
-        same("answer of the call behind it", &number(port::call(port, &call)), &Err(refusal.to_string()))?;
-        tally.count("calls set aside");
-        return Ok(());
+/// A create behind the replay and an append to it, so that the place where the Rust resumes shows in their bytes.
+fn follow(port: &mut Port, rust: &mut Oracle, folder: &Folder, mut machine: Machine, blocks: Blocks, case: &Log, tally: &mut Tally) -> Checked {
+    let name = b"zz".to_vec();
+    let append = Call::Append { name: name.clone(), position: None, run: b"behind".to_vec(), lens: vec![6] };
+    for call in [Call::Create { name }, append] {
+        let arranged = layout::place_arranged(port.write_position, case.log.len());
+        if let Some(refusal) = machine.refusal(&call, &case.room(), arranged) {
+            tally.refusal(refusal);
+            same("answer of a call behind it", &number(port::call(port, &call)), &Err(refusal.to_string()))?;
+            tally.count("calls set aside");
+            return Ok(());
+        }
+        tally.count("calls");
+        let done = machine.feed(&call);
+        same("answer of a call behind it", &number(port::call(port, &call)), &Ok(done))?;
+        same("answer of the Rust's call behind it, the counts' sum", &rust.call(&call), &Ok(done.summed()))?;
+        let mut file = vec![0; case.log.len()];
+        folder.read(&mut file);
+        same_bytes("log after a call behind it", &port.log, &file)?;
+        same("queues of the Rust after it", &rust.queues(), &machine.queues)?;
+        means("queues after it", &port.memory, &machine.queues)?;
+        in_blocks("queues after it", &port.memory, &machine.blocks(blocks.clone()))?;
     }
-    tally.count("calls");
-    let done = machine.feed(&call);
-    same("answer of the call behind it", &number(port::call(port, &call)), &Ok(done))?;
-    same("answer of the Rust's call behind it, the counts' sum", &rust.call(&call), &Ok(done.summed()))?;
-    let mut file = vec![0; case.log.len()];
-    folder.read(&mut file);
-    same_bytes("log after the call behind it", &port.log, &file)?;
-    same("queues of the Rust after it", &rust.queues(), &machine.queues)?;
-    means("queues after it", &port.memory, &machine.queues)
+    Ok(())
 }

@@ -1,13 +1,13 @@
 //! Refusal 6: sound memory changed in one place or at random, tables of any length, places and readers out of bounds. LAYOUT.md and 01 decide.
 
 use super::lists::{memory_unchanged, unchanged};
-use super::{means, number, same, same_bytes, zero, Checked, Tally};
+use super::{in_blocks, means, number, same, same_bytes, zero, Checked, Tally};
 use crate::cases::{self, List};
 use crate::frames;
 use crate::layout;
-use crate::machine::{self, question_refusal, Machine, Room};
-use crate::plain::{Bound, Queues, Reader, BLOCK};
-use crate::port::{self, Memory, Port, ENTRIES, LARGEST, TABLE};
+use crate::machine::{self, blocks_left, question_refusal, Machine, Room};
+use crate::plain::{Blocks, Bound, Queues, Reader, BLOCK};
+use crate::port::{self, Memory, Port, ENTRIES, ENTRY, LARGEST, TABLE};
 use crate::random::Random;
 
 /// Changed memories from what one list leaves: of tables of other lengths, or changed otherwise.
@@ -47,7 +47,7 @@ fn lengthen(random: &mut Random, port: &mut Port) -> &'static str {
     }
     if which < 3 {
         let any = random.below(2 * ENTRIES);
-        let len = *random.pick(&[0, 23, 24, ENTRIES - 24, ENTRIES - 1, ENTRIES + 1, ENTRIES + 24, 48_000, any, any]);
+        let len = *random.pick(&[0, ENTRY - 1, ENTRY, ENTRIES - ENTRY, ENTRIES - 1, ENTRIES + 1, ENTRIES + ENTRY, 48_000, any, any]);
         resize(random, &mut port.memory.entries, len);
     }
     if random.once_in(2) {
@@ -91,6 +91,10 @@ fn change(random: &mut Random, port: &mut Port) -> &'static str {
             cases::disarrange(random, &mut port.memory);
             "two changes"
         }
+        8 | 9 => {
+            cases::other_blocks(random, &mut port.memory);
+            "other blocks"
+        }
         _ => {
             cases::disarrange(random, &mut port.memory);
             "one change"
@@ -101,6 +105,9 @@ fn change(random: &mut Random, port: &mut Port) -> &'static str {
 fn one(random: &mut Random, mut port: Port, name: Vec<u8>, tally: &mut Tally) -> Checked {
     tally.count("memories");
     let fails = layout::fails(&port.memory);
+    if fails.is_none() && fall(&port.memory) {
+        tally.count("arranged with falling blocks");
+    }
     tally.count(fails.map_or("arranged", |condition| AGAINST[condition as usize - 1]));
     let queues = if fails.is_none() { layout::meaning(&port.memory) } else { Queues::new() };
     question(random, &port.memory, &queues, fails.is_none(), &name, tally)?;
@@ -124,12 +131,19 @@ fn one(random: &mut Random, mut port: Port, name: Vec<u8>, tally: &mut Tally) ->
         same(&format!("answer of {call:?}"), &answer, &Ok(done))?;
         same_bytes("log", &port.log, &log)?;
         means("queues", &port.memory, &machine.queues)?;
+        in_blocks("queues", &port.memory, &machine.blocks(layout::blocks(&before.memory)))?;
         same("bytes behind the tables", &layout::behind(&port.memory), &layout::behind(&before.memory))?;
         zero("scratch", &port.scratch)?;
         same("write position", &port.write_position, &machine.place)?;
     }
     reader(random, &mut port, tally)?;
     replay(&mut port, tally)
+}
+
+/// Whether the blocks of a queue fall somewhere.
+fn fall(memory: &Memory) -> bool {
+    let blocks: Vec<_> = layout::blocks(memory).into_iter().collect();
+    blocks.windows(2).any(|two| two[0].0 .0 == two[1].0 .0 && two[0].1 > two[1].1)
 }
 
 fn room(port: &Port) -> Room {
@@ -145,7 +159,10 @@ fn question(random: &mut Random, memory: &Memory, queues: &Queues, arranged: boo
     let found = number(memory.record(name, lower, Bound::None)).map(|found| found.map(|held| (held.position, held.payload.to_vec())));
     let positions = number(memory.positions(name));
     let largest = number(memory.largest(name));
+    let lowest = number(memory.first_block());
     memory_unchanged(memory, &before)?;
+    let expected = if arranged { Ok(machine::first_block(&layout::blocks(memory))) } else { Err("6".to_string()) };
+    same("first block", &lowest, &expected)?;
     match refusal {
         Some(refusal) => {
             tally.refusal(refusal);
@@ -217,6 +234,10 @@ fn replay(port: &mut Port, tally: &mut Tally) -> Checked {
     };
     zero("scratch after replay", &port.scratch)?;
     means("queues of replay", &port.memory, &queues)?;
+    if !queues.is_empty() {
+        let begun = frames::begun(&port.log);
+        in_blocks("queues of replay", &port.memory, &blocks_left(&queues, Blocks::new(), &begun))?;
+    }
     let name = queues.keys().next().cloned().unwrap_or(b"none".to_vec());
     let positions = queues.get(&name).map(|queue| (queue.start, queue.next)).ok_or("8".to_string());
     same("positions after replay", &number(port.memory.positions(&name)), &positions)

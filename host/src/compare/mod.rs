@@ -10,7 +10,8 @@ use std::collections::BTreeMap;
 use std::fmt::Debug;
 
 use crate::layout;
-use crate::plain::Queues;
+use crate::machine;
+use crate::plain::{Blocks, Queues};
 use crate::port::{Memory, Refused};
 
 /// What a kind of case has been through.
@@ -72,7 +73,7 @@ pub fn zero(what: &str, bytes: &[u8]) -> Checked {
     }
 }
 
-/// Memory that must be arranged and mean these queues; asked for the largest payload of each, and of none other.
+/// Memory that must be arranged and mean these queues; asked for the largest payload of each, and for the lowest block in its entries.
 pub fn means(what: &str, memory: &Memory, queues: &Queues) -> Checked {
     if let Some(condition) = layout::fails(memory) {
         return Err(format!("{what}: memory left against condition {condition}"));
@@ -81,7 +82,18 @@ pub fn means(what: &str, memory: &Memory, queues: &Queues) -> Checked {
     for (name, queue) in queues {
         same(&format!("{what}: largest payload of {name:?}"), &number(memory.largest(name)), &Ok(queue.largest()))?;
     }
-    Ok(())
+    first_block(what, memory, &layout::blocks(memory))
+}
+
+/// The question for the lowest of these blocks.
+fn first_block(what: &str, memory: &Memory, blocks: &Blocks) -> Checked {
+    same(&format!("{what}: first block"), &number(memory.first_block()), &Ok(machine::first_block(blocks)))
+}
+
+/// Each held record in its block, and the question for the lowest of them. In arranged memory.
+pub fn in_blocks(what: &str, memory: &Memory, blocks: &Blocks) -> Checked {
+    same(&format!("{what}: blocks of what is held"), &layout::blocks(memory), blocks)?;
+    first_block(what, memory, blocks)
 }
 
 /// A refusal by its number.

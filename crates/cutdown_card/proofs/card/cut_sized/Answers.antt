@@ -7,5 +7,5 @@ use Rattle.cutdown_card.proofs.card.cut_sized.Goals as goal
 
 pub returns : goal.returns
 returns c =
-    sized_left _ (replicate 65536 0) (replicate 32768 0) (replicate 32768 0) (replicate 24576 0) (replicate 8192 0) (replicate 1568 0) _ _ _ (length-replicate {A = ℕ} 65536 0) (length-replicate {A = ℕ} 32768 0) (length-replicate {A = ℕ} 32768 0) (length-replicate {A = ℕ} 24576 0)
+    sized_left _ (replicate 65536 0) (replicate 32768 0) (replicate 32768 0) (replicate 32768 0) (replicate 8192 0) (replicate 1568 0) _ _ _ (length-replicate {A = ℕ} 65536 0) (length-replicate {A = ℕ} 32768 0) (length-replicate {A = ℕ} 32768 0) (length-replicate {A = ℕ} 32768 0)
     (length-replicate {A = ℕ} 8192 0) (length-replicate {A = ℕ} 1568 0) c.cut_into.ensures.kept

@@ -13,4 +13,4 @@ left_in {input} {log'} {out} {r} u v e w = subst (λ (x : List ℕ). Drove input
 pub returns : goal.returns
 returns c =
     left_in _ _ (search rules)
-    (drove c.requires (length-replicate {A = ℕ} 65536 0) (length-replicate {A = ℕ} 32768 0) (length-replicate {A = ℕ} 32768 0) (length-replicate {A = ℕ} 24576 0) (length-replicate {A = ℕ} 8192 0) (search rules) c.run.ensures.ran)
+    (drove c.requires (length-replicate {A = ℕ} 65536 0) (length-replicate {A = ℕ} 32768 0) (length-replicate {A = ℕ} 32768 0) (length-replicate {A = ℕ} 32768 0) (length-replicate {A = ℕ} 8192 0) (search rules) c.run.ensures.ran)
