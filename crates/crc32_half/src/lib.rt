@@ -1,7 +1,7 @@
-// CRC-32 by a table of what a byte adds to the register through the bytes after it, some bytes a turn; and the half table, a constant as small as the byte
+// CRC-32 by a table of what a byte adds to the register through the bytes after it, some bytes a turn; and the half table, a static as small as the byte
 // table. Each contract gives the result outright, by the bitwise definition of `crc32`.
 //
-// A constant array is copied to the stack wherever it is read, so the half table is lent once a call and is never read in a loop.
+// A constant array is copied to the stack wherever it is read; a static is lent where it stands.
 #![tactic(auto)]
 
 mod table;
@@ -64,11 +64,11 @@ impl ByteTable for HalfTable<'_> {
     ghost width_fits = { Prim.search rules };
 }
 
-// The constant, which is the list that the bitwise rule gives.
-pub fn half_table() -> [u32; 256]
-    ensures { result ≡ half_table }
+// The static, which is the list that the bitwise rule gives.
+pub fn half_table() -> &'static [u32]
+    ensures { result.now ≡ half_table }
 {
-    HALVES
+    &HALVES
 }
 
 // The register after the eight bits of one byte, lowest first.

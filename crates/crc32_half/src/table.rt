@@ -1,5 +1,5 @@
 // The half table: entry 32 * p + 16 * h + v, for p below 8, h below 2 and v below 16, is the register after p + 1 zero bytes, from the register v * 16 ^ h.
-pub const HALVES: [u32; 256] = [
+pub static HALVES: [u32; 256] = [
     0x0000_0000,
     0x7707_3096,
     0xee0e_612c,
