@@ -4,3 +4,6 @@ pub mod InUse
 pub mod Brought
 pub mod Few
 pub mod Serving
+pub mod Standing
+pub mod CutRows
+pub mod FewQueues

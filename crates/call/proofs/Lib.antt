@@ -1,1 +1,2 @@
+pub mod Staying
 pub mod Calling

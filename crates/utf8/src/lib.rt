@@ -1,7 +1,7 @@
 // UTF-8 (RFC 3629): the test of a name, as the Rust's `str::from_utf8` tests it.
 #![tactic(auto)]
 
-ghost use Rattle.std.specs.Prelude.{◌≡◌, Some};
+ghost use Rattle.std.specs.Prelude.{◌≡◌, ◌≤◌, Some, length, drop};
 ghost use Rattle.utf8.specs.Utf8.{utf8, grammar, begun, after};
 ghost use Rattle.utf8.specs.Wanted.{wanted, follow};
 
@@ -52,9 +52,7 @@ fn step(w: Wanted, b: u8) -> Option<Wanted>
 }
 
 // Whether the bytes are UTF-8. Each is looked at once, by what is wanted there.
-// Kept: no plainer: std's `str::from_utf8` speaks of std's definition, where the promises on names speak of the RFC's grammar; a proof that the two agree would
-// stand in the place of this code.
-pub fn is_utf8(s: &[u8]) -> bool
+fn follows_grammar(s: &[u8]) -> bool
     ensures { result ≡ utf8 s.now }
 {
     let mut w = Wanted {
@@ -69,4 +67,25 @@ pub fn is_utf8(s: &[u8]) -> bool
         w = next;
     }
     w.left == 0
+}
+
+// How many bytes at the front are characters of one octet (UTF8-1), as most names are throughout: a whole number of characters, whatever follows.
+fn one_octet_len(s: &[u8]) -> usize
+    ensures { (result ≤ length s.now) × (utf8 (drop result s.now) ≡ utf8 s.now) }
+{
+    for (i, b) in s.iter().enumerate() {
+        if *b >= 0x80 {
+            return i;
+        }
+    }
+    s.len()
+}
+
+// Whether the bytes are UTF-8.
+// Kept: no plainer: std's `str::from_utf8` speaks of std's definition, where the promises on names speak of the RFC's grammar; a proof that the two agree would
+// stand in the place of this code.
+pub fn is_utf8(s: &[u8]) -> bool
+    ensures { result ≡ utf8 s.now }
+{
+    follows_grammar(&s[one_octet_len(s)..])
 }
