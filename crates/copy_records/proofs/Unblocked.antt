@@ -12,9 +12,10 @@ use Rattle.std.specs.declared.cmp.Ordering.TheVariants.{Less as below, Equal as 
 use Rattle.slices.specs.Order.{order}
 use Rattle.utf8.specs.Utf8.{utf8}
 use Rattle.record.specs.Record.{Item, Record, truncate, touch, delete, append, mark}
-use Rattle.queues.specs.Queues.{max_position, Stored, stored_item, stored_items, Queue, queue, next_from, next, start_with, append_item, items_above, truncate_when, truncate_queue, Found, missing, held, find_on, find, keep_on, keep, without_on, without, truncate_found, name_bytes, record_count, payloads_of, payload_bytes, Capacities, queue_fits, records_fit, rising, start_true, queue_arranged, comes_first, in_order}
+use Rattle.queues.specs.Queues.{max_position, Stored, stored_item, stored_items, Queue, queue, next, start_with, append_item, items_above, truncate_when, truncate_queue, Found, missing, held, find_on, find, keep_on, keep, without_on, without, truncate_found, name_bytes, record_count, payloads_of, payload_bytes, Capacities, queue_fits, records_fit, rising, start_true, queue_arranged, comes_first, in_order}
 use Rattle.queues.specs.Unblocked.{unblocked_record, unblocked}
 use Rattle.queues.proofs.Both.{never}
+use Rattle.queues.proofs.Unblocked.{next_unblocked}
 use Rattle.calls.specs.Refusals.{refuse, first_refusal, is_last_number}
 use Rattle.calls.specs.Replay.{Outcome, refused, left, unless, position_illegal, item_refusals, replay_items, new_refusals, replay_append, is_empty, replay_touch, through_refusals, replay_record}
 use Rattle.calls.specs.Unblocked.{unblocked_outcome}
@@ -67,15 +68,6 @@ without_bare n (r ∷ qs) =
 
 -- ---- one queue
 
-next_from_bare : (n : ℕ) (is : List Stored) → next_from n (map unblocked_record is) ≡ next_from n is
-unfolding next_from
-next_from_bare n [] = refl
-next_from_bare n (i ∷ is) = next_from_bare (suc i.position) is
-
-next_bare : (q : Queue) → next (unblocked q) ≡ next q
-unfolding next
-next_bare q = next_from_bare q.start q.records
-
 start_bare : (s : ℕ) (is : List Stored) (p : ℕ) → start_with s (map unblocked_record is) p ≡ start_with s is p
 unfolding start_with
 start_bare zero [] p = refl
@@ -106,7 +98,7 @@ truncate_on false false q e = ap (queue q.name (suc e)) (above_bare e q.records)
 truncate_bare : (q : Queue) (e : ℕ) → truncate_queue (unblocked q) e ≡ unblocked (truncate_queue q e)
 unfolding truncate_queue
 truncate_bare q e =
-    ap (λ (n : ℕ). truncate_when (ltb e q.start) (leb n (suc e)) (unblocked q) e) (next_bare q)
+    ap (λ (n : ℕ). truncate_when (ltb e q.start) (leb n (suc e)) (unblocked q) e) (next_unblocked q)
     ∙ truncate_on (ltb e q.start) (leb (next q) (suc e)) q e
 
 truncated_bare : (e : ℕ) (qs : List Queue) (f : Found) → truncate_found e (map unblocked qs) (unblocked_found f) ≡ map unblocked (truncate_found e qs f)
@@ -168,7 +160,7 @@ items_bare c qs q (i ∷ is) =
     met : first_refusal (item_refusals c (map unblocked qs) (unblocked q) (unblocked_record i)) ≡ first_refusal (item_refusals c qs q i)
     met = unfold item_refusals position_illegal in
         ap₂ (λ (a : Bool) (n : ℕ). first_refusal (refuse 12 (not a) ∷ refuse 14 (ltb i.position n || is_last_number i.position) ∷ []))
-        (records_fit_bare c qs 1 (length i.payload)) (next_bare q)
+        (records_fit_bare c qs 1 (length i.payload)) (next_unblocked q)
 
 -- a queue made, where it fits
 made_bare : (c : Capacities) (qs : List Queue) (n : List ℕ) (o o' : Outcome) → o' ≡ unblocked_outcome o
@@ -201,7 +193,7 @@ unfolding replay_touch unblocked_found unblocked_outcome
 touch_bare_on c qs p n missing = made_bare c qs n (left (keep (queue n p []) qs)) (left (keep (queue n p []) (map unblocked qs))) (ap left (keep_bare (queue n p []) qs))
 touch_bare_on c qs p n (held q) =
     ap left
-    (ap₂ (λ (a : Bool) (m : ℕ). cond (a && eqb m p) (map unblocked qs) (keep (queue n p []) (map unblocked qs))) (empty_bare q.records) (next_bare q)
+    (ap₂ (λ (a : Bool) (m : ℕ). cond (a && eqb m p) (map unblocked qs) (keep (queue n p []) (map unblocked qs))) (empty_bare q.records) (next_unblocked q)
     ∙ ap (cond (is_empty q.records && eqb (next q) p) (map unblocked qs)) (keep_bare (queue n p []) qs)
     ∙ cond_bare (is_empty q.records && eqb (next q) p) qs (keep (queue n p []) qs))
 

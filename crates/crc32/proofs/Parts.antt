@@ -8,7 +8,7 @@ use native.Mathlib.Numerals.{add-one}
 use native.Mathlib.Omega.{arith}
 use lib.Bits.{bit_xor, xor_lt, xor_comm, xor_zero_r}
 use lib.Dec.{lit<}
-use lib.ListN.{length, get_or, take, drop, length-append, length-replicate, drop_of_length-le, take-append-drop, replicate-append-replicate}
+use lib.ListN.{length, get_or, take, drop, length-append, length-replicate, drop_of_length-le, take-append-drop}
 use lib.Seq.{drop-cons, drop-drop}
 use Rattle.slices.specs.Bytes.{zeros}
 use Rattle.crc32.specs.Crc.{odd, run, bits, bits_of, crc32}
@@ -99,13 +99,6 @@ run_linear p q xs =
     (xor_assoc p q (value (bits xs)) ∙ ap (bit_xor p) (xor_comm q (value (bits xs))) ∙ sym (xor_assoc p (value (bits xs)) q))
     ∙ zero_steps_linear (length (bits xs)) (bit_xor p (value (bits xs))) q
     ∙ ap₂ bit_xor (sym (run_zero_steps p (bits xs))) (sym (run-zeros q xs))
-
--- one zero byte more
-pub run_zeros_more : (c n : ℕ) → run (run c (bits (zeros n))) (bits_of 8 0) ≡ run c (bits (zeros (suc n)))
-run_zeros_more c n =
-    sym (run-nil _) ∙ sym (run-cons (run c (bits (zeros n))) 0 [])
-    ∙ sym (parts_join c (zeros n) (0 ∷ []))
-    ∙ ap (λ (l : List ℕ). run c (bits l)) (replicate-append-replicate n 1 0 ∙ ap zeros (add-one n))
 
 -- CRC-32 fits 32 bits
 pub crc32_lt : (xs : List ℕ) → crc32 xs < 2 ^ 32

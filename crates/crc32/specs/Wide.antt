@@ -2,7 +2,7 @@
 -- The tables by which bytes go into the register at once: the byte table of 256 entries, and the wide table, 16 parts of 256 entries end to end,
 -- of which the byte table is the first.
 -- Assumes nothing.
-use Rattle.std.specs.Prelude.{◌≡◌, ◌⊎◌, Bool, true, false, List, [], ◌∷◌, ℕ, zero, suc, ◌/◌, ◌%◌, ◌≤◌, ◌<◌, eqb, length, get_or}
+use Rattle.std.specs.Prelude.{◌≡◌, List, [], ◌∷◌, ℕ, zero, suc, ◌/◌, ◌%◌, ◌≤◌, ◌<◌, length, get_or}
 use Rattle.slices.specs.Bytes.{zeros}
 use Rattle.crc32.specs.Crc.{run, bits}
 
@@ -21,29 +21,7 @@ byte_table = wide_from 0 256
 unfoldable pub wide_table : List ℕ
 wide_table = wide_from 0 4096
 
--- what may be lent as a table: nothing, or the wide table
-abbrev pub TableReady : List ℕ → Type 0
-TableReady t = (t ≡ []) ⊎ (t ≡ wide_table)
-
--- a slice of this many entries is as long as the wide table
-abbrev pub holds_table : ℕ → Bool
-holds_table n = eqb n 4096
-
--- what filling leaves: the wide table where the slice can hold it, else what was there
-abbrev pub filled_by : Bool → List ℕ → List ℕ
-filled_by true t = wide_table
-filled_by false t = t
-
-abbrev pub filled : List ℕ → List ℕ
-filled t = filled_by (holds_table (length t)) t
-
 -- t starts with the wide table's first n entries
 pub record Starts (n : ℕ) (t : List ℕ) : Type 0 where
   pub long : n ≤ length t
   pub right : (j : ℕ) → j < n → get_or t j 0 ≡ wide_entry j
-
--- t₀ has become t, which starts with the wide table's first n entries and is t₀ after them
-pub record Grown (n : ℕ) (t₀ t : List ℕ) : Type 0 where
-  pub same_length : length t ≡ length t₀
-  pub starts : Starts n t
-  pub rest : (j : ℕ) → n ≤ j → get_or t j 0 ≡ get_or t₀ j 0

@@ -2,10 +2,11 @@
 -- Assumes nothing.
 use mathlib.Core.Path.{◌≡◌, refl, sym, ap, ap₂, ◌∙◌}
 use mathlib.Core.List.{List, [], ◌∷◌, ◌++◌, map}
-use Prim.Native.Nat.{ℕ, suc}
+use Prim.Native.Nat.{ℕ}
 use lib.ListN.{length-map}
-use Rattle.queues.specs.Queues.{Stored, item_of, Queue, next_from, next}
+use Rattle.queues.specs.Queues.{Stored, item_of, Queue}
 use Rattle.queues.specs.Unblocked.{unblocked_record, unblocked}
+use Rattle.queues.proofs.Unblocked.{next_unblocked}
 use Rattle.listing.specs.Listing.{queues_word, number_line, head_line, queue_line, record_line, record_lines, queue_lines, end_lines, listing}
 use Rattle.listing.specs.Claims.{BlocksUnlisted}
 
@@ -14,14 +15,9 @@ unfolding record_lines
 records_unlisted [] = refl
 records_unlisted (i ∷ is) = ap (λ (l : List ℕ). record_line (item_of i) ++ l) (records_unlisted is)
 
-next_unlisted : (n : ℕ) (is : List Stored) → next_from n (map unblocked_record is) ≡ next_from n is
-unfolding next_from
-next_unlisted n [] = refl
-next_unlisted n (i ∷ is) = next_unlisted (suc i.position) is
-
 queue_unlisted : (q : Queue) → queue_line (unblocked q) ≡ queue_line q
-unfolding queue_line next
-queue_unlisted q = ap₂ (head_line q.name q.start) (next_unlisted q.start q.records) (length-map q.records unblocked_record)
+unfolding queue_line
+queue_unlisted q = ap₂ (head_line q.name q.start) (next_unblocked q) (length-map q.records unblocked_record)
 
 queues_unlisted : (qs : List Queue) → queue_lines (map unblocked qs) ≡ queue_lines qs
 unfolding queue_lines

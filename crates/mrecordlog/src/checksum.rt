@@ -7,5 +7,5 @@ ghost use Rattle.crc32.specs.Crc.{crc32};
 pub extern "C" fn mrecordlog_checksum(frame_type: u8, data: &[u8]) -> u32
     ensures { result ≡ crc32 (frame_type ∷ «data».now) }
 {
-    crc32_frame::checksum(frame_type, data)
+    crc32_fold::checksum(frame_type, data)
 }

@@ -9,7 +9,6 @@ ghost use Rattle.report_count.specs.Sums.{plus};
 ghost use Rattle.report_count.specs.Table.{counted, count_seen, count_others, table_of, others_of, numbers_of};
 ghost use Rattle.report_count.specs.Table.{CellsFit, OthersFit, NumbersFit};
 
-use crc32_fold::WideTable;
 use frame::{FrameType, Reader};
 use report_frames::{Seen, Sight, see};
 
@@ -139,7 +138,7 @@ fn numbers_of(logs: u64, table: [[u64; 2]; 4], others: Others) -> [u64; 12]
 }
 
 // The numbers of a report after this log: the loop carries the table and the other counts side by side, up to the first end of log.
-pub fn count_log(crc: Option<WideTable<'_>>, log: &[u8], numbers: &[u64; 12]) -> [u64; 12]
+pub fn count_log(log: &[u8], numbers: &[u64; 12]) -> [u64; 12]
     requires { (1 ≤ blocks log.now) × NumbersFit numbers.now log.now }
     ensures { result ≡ plus numbers.now (tally (frames_read log.now)) }
 {
@@ -149,7 +148,7 @@ pub fn count_log(crc: Option<WideTable<'_>>, log: &[u8], numbers: &[u64; 12]) ->
     while let Sight {
         seen: Some(seen),
         reader: left,
-    } = see(crc, log, reader)
+    } = see(log, reader)
     {
         // Kept: an array that a call answers goes through a name of its own, since the proof covers no answer laid straight into a variable that is changed.
         let next = count_seen(table, seen);

@@ -45,7 +45,7 @@ impl DataLog<'_, '_> {
     // A record of the first n bytes of the data at a place; there is none where the data are shorter.
     fn write(&mut self, place: usize, n: usize) -> Option<RecordWrite> {
         let record = self.data.get(..n)?;
-        recordlog::write_record(None, self.log, place, record)
+        recordlog::write_record(self.log, place, record)
     }
 
     // The same. Answers the place after it; where there is no room, 13 is printed and the place stays.
@@ -105,7 +105,7 @@ pub fn read_into(log: &[u8], scratch: &mut [u8], written: Option<&[u8]>) -> AllR
         return AllRead { count: 0, reader };
     }
     for count in 0..20000 {
-        let read = recordlog::next_record(None, log, scratch, reader);
+        let read = recordlog::next_record(log, scratch, reader);
         reader = read.reader;
         let answer = read.answer;
         if let Some(data) = written {

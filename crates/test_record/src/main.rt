@@ -35,46 +35,38 @@ fn print_items(rt: &impl Print, s: &[u8], mut left: MultiRecord) -> io::Result<(
 
 // What it is, its position, and where its name or its body starts and how long it is.
 fn print_record(rt: &impl Print, s: &[u8], r: Option<MultiPlexedRecord>) -> io::Result<()> {
-    match r {
-        None => print!(rt; "none"),
-        Some(
-            MultiPlexedRecord::Truncate {
-                position,
-                name_start,
-                name_len,
-            },
-        ) => print!(rt; "truncate {position} {name_start} {name_len}"),
-        Some(
-            MultiPlexedRecord::Touch {
-                position,
-                name_start,
-                name_len,
-            },
-        ) => print!(rt; "touch {position} {name_start} {name_len}"),
-        Some(
-            MultiPlexedRecord::Delete {
-                position,
-                name_start,
-                name_len,
-            },
-        ) => print!(rt; "delete {position} {name_start} {name_len}"),
-        Some(
-            MultiPlexedRecord::Append {
-                position,
-                name_start,
-                name_len,
-                items,
-            },
-        ) => {
+    let Some(record) = r else {
+        return print!(rt; "none");
+    };
+    match record {
+        MultiPlexedRecord::Truncate {
+            position,
+            name_start,
+            name_len,
+        } => print!(rt; "truncate {position} {name_start} {name_len}"),
+        MultiPlexedRecord::Touch {
+            position,
+            name_start,
+            name_len,
+        } => print!(rt; "touch {position} {name_start} {name_len}"),
+        MultiPlexedRecord::Delete {
+            position,
+            name_start,
+            name_len,
+        } => print!(rt; "delete {position} {name_start} {name_len}"),
+        MultiPlexedRecord::Append {
+            position,
+            name_start,
+            name_len,
+            items,
+        } => {
             print!(rt; "append {position} {name_start} {name_len}")?;
             print_items(rt, s, items)
         }
-        Some(
-            MultiPlexedRecord::Mark {
-                position,
-                body_start,
-            },
-        ) => print!(rt; "mark {position} {body_start} 8"),
+        MultiPlexedRecord::Mark {
+            position,
+            body_start,
+        } => print!(rt; "mark {position} {body_start} 8"),
     }
 }
 
@@ -186,8 +178,7 @@ fn items(rt: &impl Print) -> io::Result<()> {
     )
 }
 
-// Marks: a body of 8 bytes, the numbers 0 and 2^64-1; bodies of 7, 9 and no bytes; a name of one byte with 8 and with 7 bytes
-// after it; types 1 and 6 in the form of a mark.
+// Marks: a body of 8 bytes, the numbers 0 and 2^64-1; bodies of 7, 9 and no bytes.
 fn marks(rt: &impl Print) -> io::Result<()> {
     run(
         rt,
@@ -214,7 +205,11 @@ fn marks(rt: &impl Print) -> io::Result<()> {
         b"\x05\x07\0\0\0\0\0\0\0\0\0\x01\x02\x03\x04\x05\x06\x07\x08\x09",
         "none",
     )?;
-    run(rt, b"\x05\x07\0\0\0\0\0\0\0\0\0", "none")?;
+    run(rt, b"\x05\x07\0\0\0\0\0\0\0\0\0", "none")
+}
+
+// A mark's type and a name of one byte, with 8 and with 7 bytes after it; types 1 and 6 in the form of a mark.
+fn near_marks(rt: &impl Print) -> io::Result<()> {
     run(
         rt,
         b"\x05\x07\0\0\0\0\0\0\0\x01\0a\x01\x02\x03\x04\x05\x06\x07\x08",
@@ -369,5 +364,6 @@ fn main(rt: HostRuntime) -> io::Result<()> {
     writes(&rt)?;
     lengths(&rt)?;
     marks(&rt)?;
+    near_marks(&rt)?;
     mark_writes(&rt)
 }

@@ -11,7 +11,7 @@ use Rattle.crc32_fold.proofs.Folding.{folded_run}
 use Rattle.crc32_fold.proofs.register_after.Goals as goal
 
 pub returns : goal.returns
-returns g c =
+returns c =
     let xs : List ℕ = c.args.s.now in
     let us : List ℕ = c.args.u.now in
     let e : length xs + 300 - length xs ≡ 300 = omega arith in

@@ -2,9 +2,9 @@
 -- Assumes nothing.
 use mathlib.Core.Path.{refl}
 use Rattle.crc32.specs.Crc.{odd, step, run, bits_of, bits}
-use Rattle.crc32.specs.Wide.{wide_entry, wide_from}
+use Rattle.crc32.specs.Wide.{wide_entry, wide_from, wide_table}
 use Rattle.crc32_parts.proofs.parts.Goals as goal
 
 pub returns : goal.returns
-unfolding wide_from wide_entry run step bits bits_of odd
+unfolding wide_table wide_from wide_entry run step bits bits_of odd
 returns c = refl

@@ -1,15 +1,9 @@
 -- `report::feed_log` meets its contract.
 -- Assumes nothing.
-use Prim.Native.Nat.{ℕ}
-use lib.ListN.{replicate, length-replicate}
-use Rattle.crc32.proofs.Entries.{filled_ready}
 use Rattle.report.proofs.Refusing.{feed_passed}
 use Rattle.report.proofs.Left.{numbers_fit, stored}
 use Rattle.report.proofs.Left.{pack_room}
 use Rattle.report.proofs.feed_log.Goals as goal
-
-pub lent-crc-requires : goal.lent-crc-requires
-lent-crc-requires c = filled_ready (replicate 4096 0) _ (length-replicate {A = ℕ} 4096 0) c.fill_table.ensures.1
 
 pub numbers_in-numbers-requires : goal.numbers_in-numbers-requires
 numbers_in-numbers-requires c = (feed_passed _ _ c.requires).ok.long

@@ -1,5 +1,0 @@
-use Rattle.crc32.proofs.Parts.{run_split}
-use Rattle.crc32_parts.proofs.by_table.Goals as goal
-
-pub returns : goal.returns
-returns g c = rw c.by_turns-2.ensures (run_split _ _ _ _ _ _ c.split_at.ensures.front c.split_at.ensures.back c.by_turns-c.ensures)
