@@ -1,9 +1,9 @@
 // UTF-8 (RFC 3629): the test of a name, as the Rust's `str::from_utf8` tests it.
 #![tactic(auto)]
 
-ghost use Rattle.std.specs.Prelude.{◌≡◌, ◌≤◌, Some, length, drop};
+ghost use Rattle.std.specs.Prelude.{◌≡◌, Some};
 ghost use Rattle.utf8.specs.Utf8.{utf8, grammar, begun, after};
-ghost use Rattle.utf8.specs.Wanted.{wanted, follow};
+ghost use Rattle.utf8.specs.Wanted.{wanted, follow, are_one_octet};
 
 // What is still to come of a character: `left` bytes, the next of them from `low` to `high`, each
 // further one from 0x80 to 0xbf. With none left it is whole, and `low` and `high` mean nothing.
@@ -69,16 +69,16 @@ fn follows_grammar(s: &[u8]) -> bool
     w.left == 0
 }
 
-// How many bytes at the front are characters of one octet (UTF8-1), as most names are throughout: a whole number of characters, whatever follows.
-fn one_octet_len(s: &[u8]) -> usize
-    ensures { (result ≤ length s.now) × (utf8 (drop result s.now) ≡ utf8 s.now) }
+// Whether each of the bytes is a character of its own (UTF8-1), as in most names. It looks at all of them, with no way out before the end: eight bytes make one
+// comparison then.
+fn are_one_octet(s: &[u8]) -> bool
+    ensures { result ≡ are_one_octet s.now }
 {
-    for (i, b) in s.iter().enumerate() {
-        if *b >= 0x80 {
-            return i;
-        }
+    let mut all = true;
+    for b in s {
+        all &= *b < 0x80;
     }
-    s.len()
+    all
 }
 
 // Whether the bytes are UTF-8.
@@ -87,5 +87,12 @@ fn one_octet_len(s: &[u8]) -> usize
 pub fn is_utf8(s: &[u8]) -> bool
     ensures { result ≡ utf8 s.now }
 {
-    follows_grammar(&s[one_octet_len(s)..])
+    let mut rest = s;
+    while let Some((eight, later)) = rest.split_at_checked(8) {
+        if !are_one_octet(eight) {
+            return follows_grammar(rest);
+        }
+        rest = later;
+    }
+    are_one_octet(rest) || follows_grammar(rest)
 }
