@@ -8,7 +8,7 @@ ghost use Rattle.abi_largest.specs.Numbers.{read_over};
 use lent::HeldMemory;
 
 // That the tables of a memory are bytes.
-pub fn below_256(memory: HeldMemory<'_, u8, u8>)
+pub fn below_256(memory: HeldMemory<'_, '_, u8, u8>)
     ensures entries { Bytes memory.entry.entries.now }
     ensures largest { Bytes memory.entry.largest.now }
     ensures table { Bytes memory.entry.table.now }
@@ -20,10 +20,10 @@ pub fn below_256(memory: HeldMemory<'_, u8, u8>)
 
 // The memory with its words, and the numbers of the used entries, read into tables lent beside it.
 pub fn with_words<'a>(
-    memory: HeldMemory<'a, u8, u8>,
+    memory: HeldMemory<'a, 'a, u8, u8>,
     numbers: &'a mut [u64],
     words: &'a mut [u64],
-) -> HeldMemory<'a, u8, u64>
+) -> HeldMemory<'a, 'a, u8, u64>
     requires { (8 * length numbers.old ≤ length memory.largest.now)
         × (8 * length words.old ≤ length memory.table.now) }
     ensures names { result.names.now ≡ memory.entry.names.now }

@@ -3,7 +3,7 @@
 use mathlib.Core.Path.{◌≡◌, refl, sym, ap, ap₂, ◌∙◌}
 use mathlib.Core.Bool.{Bool, true, false, cond, false≢true}
 use mathlib.Core.List.{List, [], ◌∷◌, ◌++◌}
-use Prim.Native.Nat.{ℕ}
+use Prim.Native.Nat.{ℕ, ◌<◌}
 use native.Mathlib.Omega.{arith}
 use lib.Dec.{eqb}
 use borrow.Author.Tests.{ne_eqb, eqb-true}
@@ -18,7 +18,7 @@ use Rattle.contracts.specs.Numbers.{called_numbers}
 use Rattle.listing.specs.Internal.{Wrote}
 use Rattle.listing.specs.Listing.{space, numbered, number_line, refusal}
 use Rattle.listing.proofs.Writes.{on, reads, wrote_none_lem}
-use Rattle.drive_commands.specs.Commands.{name_in, number_in, payload_in, position_by, call_by}
+use Rattle.drive_commands.specs.Commands.{name_in, number_in, payload_in, position_by, width, call_by}
 use Rattle.drive_commands.specs.Lines.{ok_word, position_text, told_of, counts_text, ok_line, line_by}
 use Rattle.drive_commands.specs.Internal.{byte_of, told_for, ok_for, line_for}
 use Rattle.drive_commands.specs.declared.Command.{Command}
@@ -65,6 +65,28 @@ module _ {s t : List ℕ} {p q : ℕ} (b : ℕ) (answer : Result Called Refusal)
   pub refused_on : (r : Refusal) (n : ℕ) → answer ≡ Err r → n ≡ refusal_number r → Wrote s p (refusal n) q t → Wrote s p (line_for b answer) q t
   unfolding line_for
   refused_on r n h e w = reads (ap refusal e ∙ sym (ap (line_for b) h)) w
+
+-- the line by a byte is that of its command, and of no command that of a create
+pub known_line : {s t : List ℕ} {p q : ℕ} (k : Command) (b : ℕ) (answer : Result Called Refusal) → byte_of k ≡ b → Wrote s p (line_for (byte_of k) answer) q t
+    → Wrote s p (line_for b answer) q t
+known_line k b answer e w = reads (ap (λ (x : ℕ). line_for x answer) e) w
+
+no_byte : (b : ℕ) → width b ≡ 0 → (n : ℕ) → (0 < width n) → eqb b n ≡ false
+no_byte b e n h = ne_eqb b n (λ f. omega (arith, ap width f, e, h))
+
+told_none : (b : ℕ) (a : Called) → eqb b 2 ≡ false → eqb b 3 ≡ false → told_for 1 a ≡ told_for b a
+unfolding told_for
+told_none b a i j =
+    sym (ap₂ (λ (x y : Bool). cond x (space ++ position_text (position_of a.last)) (cond y (numbered space a.evicted) [])) i j)
+
+pub unknown_line : {s t : List ℕ} {p q : ℕ} (b : ℕ) (answer : Result Called Refusal) → width b ≡ 0 → Wrote s p (line_for 1 answer) q t
+    → Wrote s p (line_for b answer) q t
+unfolding line_for ok_for width
+unknown_line b (Ok a) e w =
+    let i = no_byte b e 2 (omega arith) in
+    let j = no_byte b e 3 (omega arith) in
+    reads (ap (λ (l : List ℕ). ok_word ++ (l ++ (numbered space a.frame_bytes ++ number_line space a.padding_bytes))) (told_none b a i j)) w
+unknown_line b (Err r) e w = w
 
 pub refusal_on : {s t : List ℕ} {p q : ℕ} (n : ℕ) → Wrote s p (number_line (114 ∷ 101 ∷ 102 ∷ 117 ∷ 115 ∷ 101 ∷ 100 ∷ 32 ∷ []) n) q t → Wrote s p (refusal n) q t
 unfolding refusal

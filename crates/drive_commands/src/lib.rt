@@ -5,7 +5,7 @@ mod line;
 mod operands;
 
 pub use line::{put_line, put_refused};
-pub use operands::{at_position, command_at, name_len, number_in};
+pub use operands::{at_position, command_at, name_len, number_in, width};
 
 // A command, with its byte.
 #[derive(Clone, Copy, PartialEq, Eq)]

@@ -53,12 +53,23 @@ pub fn put_refused(text: &mut Text, number: u64)
 }
 
 // What the call of a command answered.
-pub fn put_line(text: &mut Text, command: Command, answer: Result<Called, Refusal>)
+fn put_command_line(text: &mut Text, command: Command, answer: Result<Called, Refusal>)
     ensures same { SameOut text.old text.new }
     ensures puts { Puts text.old (line_for (byte_of command) answer) text.new }
 {
     match answer {
         Ok(called) => put_ok(text, command, called),
         Err(refusal) => put_refused(text, refusal.number()),
+    }
+}
+
+// The same by the command's byte. Of a byte that no command has no more is told than of a create.
+pub fn put_line(text: &mut Text, byte: u8, answer: Result<Called, Refusal>)
+    ensures same { SameOut text.old text.new }
+    ensures puts { Puts text.old (line_for byte answer) text.new }
+{
+    match Command::from_byte(byte) {
+        Some(command) => put_command_line(text, command, answer),
+        None => put_command_line(text, Command::Create, answer),
     }
 }

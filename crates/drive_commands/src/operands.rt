@@ -44,6 +44,16 @@ impl Command {
     }
 }
 
+// How many bytes the operands of a command byte take; 0 for one that no command has.
+pub fn width(command: u8) -> usize
+    ensures { result ≡ width command }
+{
+    match Command::from_byte(command) {
+        Some(known) => known.width(),
+        None => 0,
+    }
+}
+
 // The command that stands at this place of the input, with all its operands.
 // Kept: no plainer: the place `p`, here and in drive_text: where a command ends (`passed`) and what a turn did (`Turned`) are said by the place in the input.
 pub fn command_at(input: &[u8], p: usize) -> Option<Command>

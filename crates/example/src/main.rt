@@ -5,7 +5,6 @@
 use multi_record_log::{
     Called, FoundRecord, HeldMemory, LogWriter, Payload, QuestionAnswer, QueueMemory, Refusal,
 };
-use std::io;
 use std::ops::Bound;
 
 const RINGS: &[u8] = b"rings";
@@ -83,7 +82,7 @@ impl Queues {
     }
 
     // All of it, to be looked at.
-    fn held(&self) -> HeldMemory<'_, u8, u8> {
+    fn held(&self) -> HeldMemory<'_, '_, u8, u8> {
         HeldMemory {
             names: &self.names,
             payloads: &self.payloads,
@@ -99,9 +98,9 @@ impl Queues {
     }
 }
 
-// What a call that writes answered: the bytes of its frames and of the padding before them.
-fn tell_call(rt: &impl Print, what: &str, answer: Result<Called, Refusal>) -> io::Result<()> {
-    match answer {
+// What a call that writes answered: the bytes of its frames and of the padding before them. A write that fails is passed over, here and below.
+fn tell_call(rt: &impl Print, what: &str, answer: Result<Called, Refusal>) {
+    let _ = match answer {
         Ok(
             Called {
                 frame_bytes,
@@ -110,17 +109,17 @@ fn tell_call(rt: &impl Print, what: &str, answer: Result<Called, Refusal>) -> io
             },
         ) => println!(rt; "{what}: bytes {frame_bytes} + {padding_bytes}"),
         Err(refusal) => println!(rt; "{what}: refused {}", refusal.number()),
-    }
+    };
 }
 
-fn tell_record(rt: &impl Print, queues: &Queues, record: FoundRecord) -> io::Result<()> {
-    print!(rt; " {}", record.position)?;
+fn tell_record(rt: &impl Print, queues: &Queues, record: FoundRecord) {
+    let _ = print!(rt; " {}", record.position);
     if let Some(payload) = queues.payload(record) {
-        rt.write_all(b" '")?;
-        rt.write_all(payload)?;
-        rt.write_all(b"'")?;
+        let _ = rt.write_all(b" '");
+        let _ = rt.write_all(payload);
+        let _ = rt.write_all(b"'");
     }
-    println!(rt; "")
+    let _ = println!(rt; "");
 }
 
 fn tell_answer(
@@ -128,11 +127,11 @@ fn tell_answer(
     what: &str,
     queues: &Queues,
     answer: Result<QuestionAnswer, Refusal>,
-) -> io::Result<()> {
-    print!(rt; "{what}")?;
-    match answer {
+) {
+    let _ = print!(rt; "{what}");
+    let _ = match answer {
         Ok(QuestionAnswer::Positions { start, next }) => println!(rt; " from {start} to {next}"),
-        Ok(QuestionAnswer::Record(Some(record))) => tell_record(rt, queues, record),
+        Ok(QuestionAnswer::Record(Some(record))) => return tell_record(rt, queues, record),
         Ok(QuestionAnswer::Largest(Some(Payload { length, position }))) => {
             println!(rt; " {length} bytes, at {position}")
         }
@@ -140,49 +139,51 @@ fn tell_answer(
             println!(rt; " none")
         }
         Err(refusal) => println!(rt; " refused {}", refusal.number()),
-    }
+    };
 }
 
 // What the queue holds: its positions, the first record of the range of all, and the largest payload.
-fn tell_queue(rt: &impl Print, queues: &Queues) -> io::Result<()> {
+fn tell_queue(rt: &impl Print, queues: &Queues) {
     let memory = queues.held();
     let positions = multi_record_log::positions(memory, RINGS);
-    tell_answer(rt, "positions", queues, positions)?;
+    tell_answer(rt, "positions", queues, positions);
     let first = multi_record_log::range(memory, RINGS, Bound::Unbounded, Bound::Unbounded);
-    tell_answer(rt, "first", queues, first)?;
+    tell_answer(rt, "first", queues, first);
     let largest = multi_record_log::largest(memory, RINGS);
-    tell_answer(rt, "largest", queues, largest)
+    tell_answer(rt, "largest", queues, largest);
 }
 
 // The queues of the log, in other memory; writing goes on where replay resumes.
-fn open(rt: &impl Print, log: &mut Log) -> io::Result<()> {
+fn open(rt: &impl Print, log: &mut Log) {
     let mut queues = Queues::new();
     match multi_record_log::replay(&log.bytes, &mut log.scratch, &mut queues.lent()) {
         Ok(replayed) => {
             log.write_position = replayed.resumed;
             let lost_bytes = replayed.lost_bytes;
             let resumed = replayed.resumed;
-            println!(rt; "open: lost bytes {lost_bytes}, resumed {resumed}")?;
+            let _ = println!(rt; "open: lost bytes {lost_bytes}, resumed {resumed}");
         }
-        Err(refusal) => println!(rt; "open: refused {}", refusal.number())?,
+        Err(refusal) => {
+            let _ = println!(rt; "open: refused {}", refusal.number());
+        }
     }
-    tell_queue(rt, &queues)
+    tell_queue(rt, &queues);
 }
 
 // What the queues hold, in a fresh log.
-fn cut_down(rt: &impl Print, queues: &Queues) -> io::Result<()> {
+fn cut_down(rt: &impl Print, queues: &Queues) {
     let mut fresh = Log::new();
-    match multi_record_log::copy(&mut fresh.bytes, &mut fresh.scratch, queues.held()) {
-        Ok(end) => println!(rt; "copy: bytes {end}")?,
-        Err(refusal) => println!(rt; "copy: refused {}", refusal.number())?,
-    }
-    open(rt, &mut fresh)
+    let _ = match multi_record_log::copy(&mut fresh.bytes, &mut fresh.scratch, queues.held()) {
+        Ok(end) => println!(rt; "copy: bytes {end}"),
+        Err(refusal) => println!(rt; "copy: refused {}", refusal.number()),
+    };
+    open(rt, &mut fresh);
 }
 
 // A queue, and two records in it, from position 7 on.
-fn write(rt: &impl Print, log: &mut Log, queues: &mut Queues) -> io::Result<()> {
+fn write(rt: &impl Print, log: &mut Log, queues: &mut Queues) {
     let created = multi_record_log::create(&mut log.writer(), &mut queues.lent(), RINGS);
-    tell_call(rt, "create", created)?;
+    tell_call(rt, "create", created);
     let appended = multi_record_log::append(
         &mut log.writer(),
         &mut queues.lent(),
@@ -191,21 +192,21 @@ fn write(rt: &impl Print, log: &mut Log, queues: &mut Queues) -> io::Result<()> 
         b"ring 7ring 8 x",
         &[6, 8],
     );
-    tell_call(rt, "append", appended)
+    tell_call(rt, "append", appended);
 }
 
 // The first record evicted.
-fn evict(rt: &impl Print, log: &mut Log, queues: &mut Queues) -> io::Result<()> {
+fn evict(rt: &impl Print, log: &mut Log, queues: &mut Queues) {
     let truncated = multi_record_log::truncate(&mut log.writer(), &mut queues.lent(), RINGS, 7);
-    tell_call(rt, "truncate", truncated)
+    tell_call(rt, "truncate", truncated);
 }
 
-fn main(rt: HostRuntime) -> io::Result<()> {
+fn main(rt: HostRuntime) {
     let mut log = Log::new();
     let mut queues = Queues::new();
-    write(&rt, &mut log, &mut queues)?;
-    tell_queue(&rt, &queues)?;
-    open(&rt, &mut log)?;
-    evict(&rt, &mut log, &mut queues)?;
-    cut_down(&rt, &queues)
+    write(&rt, &mut log, &mut queues);
+    tell_queue(&rt, &queues);
+    open(&rt, &mut log);
+    evict(&rt, &mut log, &mut queues);
+    cut_down(&rt, &queues);
 }

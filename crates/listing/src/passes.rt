@@ -39,7 +39,7 @@ impl<'a> Text<'a> {
     // Kept: no plainer: `count`, how many entries are held, beside the memory: the definition `queue_text` speaks of the first ones of all.
     fn queue_text(
         &mut self,
-        memory: HeldMemory<'_, RecordEntry, u64>,
+        memory: HeldMemory<'_, '_, RecordEntry, u64>,
         passed: usize,
         count: usize,
         k: usize,
@@ -62,7 +62,7 @@ impl<'a> Text<'a> {
 
 // The listing of a memory that is arranged, behind what the text has.
 pub fn list(
-    memory: HeldMemory<'_, RecordEntry, u64>,
+    memory: HeldMemory<'_, '_, RecordEntry, u64>,
     lost: u64,
     resumed: usize,
     log_bytes: usize,

@@ -2,23 +2,13 @@
 ghost use Rattle.std.specs.Prelude.{◌≡◌};
 ghost use Rattle.planes.specs.Step.{step_answer, to_planes_left, from_planes_left, planes_number};
 
-use planes::PlanesError;
-
-// The number of a step's answer: 0 where nothing is refused.
-// Kept: the C interface gives refusals as numbers. One over all error types takes a trait, and an impl of it for each.
-fn number(answer: Result<(), PlanesError>) -> u64
-    ensures { result ≡ planes_number answer }
-{
-    answer.err().map_or(0, PlanesError::number)
-}
-
 // The readings of a payload as planes.
 #[unsafe(no_mangle)]
 pub extern "C" fn mrecordlog_to_planes(payload: &[u8], width: u64, target: &mut [u8]) -> u64
     ensures { (result ≡ planes_number (step_answer width payload.now target.old))
         × (target.new ≡ to_planes_left width payload.now target.old) }
 {
-    number(planes::to_planes(payload, width, target))
+    planes::number(planes::to_planes(payload, width, target))
 }
 
 // The readings that a payload of planes holds.
@@ -27,5 +17,5 @@ pub extern "C" fn mrecordlog_from_planes(payload: &[u8], width: u64, target: &mu
     ensures { (result ≡ planes_number (step_answer width payload.now target.old))
         × (target.new ≡ from_planes_left width payload.now target.old) }
 {
-    number(planes::from_planes(payload, width, target))
+    planes::number(planes::from_planes(payload, width, target))
 }

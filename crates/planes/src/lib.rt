@@ -4,7 +4,7 @@
 ghost use Rattle.std.specs.Prelude.{◌≡◌, ◌+◌, ◌*◌, ◌≤◌, ◌<◌, length};
 ghost use Rattle.slices.specs.Put.{put};
 ghost use Rattle.planes.specs.Planes.{every, crossed};
-ghost use Rattle.planes.specs.Step.{planes_fit, step_answer, to_planes_left, from_planes_left, error_number};
+ghost use Rattle.planes.specs.Step.{planes_fit, step_answer, to_planes_left, from_planes_left, error_number, planes_number};
 
 // Why a step is refused.
 #[derive(Clone, Copy, Debug, PartialEq, Eq)]
@@ -21,6 +21,14 @@ impl PlanesError {
     {
         self as u64
     }
+}
+
+// The number of an answer: 0 where nothing is refused.
+// Kept: the C interface gives refusals as numbers. One over all error types takes a trait, and an impl of it for each.
+pub fn number(answer: Result<(), PlanesError>) -> u64
+    ensures { result ≡ planes_number answer }
+{
+    answer.err().map_or(0, PlanesError::number)
 }
 
 // Whether the step is taken, for readings of this many bytes, a payload and a target of these lengths.

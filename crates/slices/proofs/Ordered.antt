@@ -5,6 +5,7 @@ use mathlib.Core.Bool.{Bool, true, false}
 use mathlib.Core.List.{List, [], ◌∷◌}
 use Prim.Native.Nat.{ℕ, ◌≤◌, ◌<◌}
 use native.Mathlib.Omega.{arith}
+use lib.ListN.{length, get_or}
 use lib.Dec.{ltb}
 use borrow.Author.Tests.{ltb-true, ltb-false, lt-ltb, le-ltb, eq-eqb, ne_eqb}
 use Rattle.std.specs.Ordering.{nat_cmp, ordering_then}
@@ -126,3 +127,17 @@ order_by_cmp (x ∷ xs) (y ∷ ys) =
     (λ h. rw (lt-ltb x y h))
     (λ h. rw (le-ltb x y (omega arith), ne_eqb x y (λ e. omega arith), lt-ltb y x h))
     (λ h. rw (le-ltb x y (omega arith), eq-eqb x y h, le-ltb y x (omega arith)))
+
+-- ---- the first byte decides where it differs
+
+pub first_below : (xs ys : List ℕ) → 0 < length xs → 0 < length ys → get_or xs 0 0 < get_or ys 0 0 → Less ≡ order xs ys
+unfolding order
+first_below [] ys h k l = absurd (omega (arith, h))
+first_below (x ∷ xs) [] h k l = absurd (omega (arith, k))
+first_below (x ∷ xs) (y ∷ ys) h k l = sym (by_below x y (order xs ys) l)
+
+pub first_above : (xs ys : List ℕ) → 0 < length xs → 0 < length ys → get_or ys 0 0 < get_or xs 0 0 → Greater ≡ order xs ys
+unfolding order
+first_above [] ys h k l = absurd (omega (arith, h))
+first_above (x ∷ xs) [] h k l = absurd (omega (arith, k))
+first_above (x ∷ xs) (y ∷ ys) h k l = sym (by_above x y (order xs ys) l)

@@ -53,10 +53,26 @@ pub fn same(a: &[u8], b: &[u8]) -> bool
 }
 
 // How a stands to b in byte order.
-pub fn compare(a: &[u8], b: &[u8]) -> Ordering
+fn compare_all(a: &[u8], b: &[u8]) -> Ordering
     ensures { result ≡ order a.now b.now }
 {
     a.cmp(&b)
+}
+
+// The same. Many names differ in their first byte: it is looked at where the call stands.
+#[inline(always)]
+pub fn compare(a: &[u8], b: &[u8]) -> Ordering
+    ensures { result ≡ order a.now b.now }
+{
+    if 0 < a.len() && 0 < b.len() {
+        if a[0] < b[0] {
+            return Ordering::Less;
+        }
+        if b[0] < a[0] {
+            return Ordering::Greater;
+        }
+    }
+    compare_all(a, b)
 }
 
 // That bytes are below 256: the check knows it of a slice that is a parameter, and not of one that a struct lends. It does nothing.

@@ -2,12 +2,11 @@
 // what should come by document 01; examples/counts/make.py works out the last ones, with both counts of bytes.
 #![tactic(auto)]
 
-use std::io::Read;
-
 // The first 65,536 bytes of the input, as far as they can be read.
-// Kept: no plainer: `test_calls`, `test_blocks` and `test_rust_answers` are one program over three inputs, and a crate has one stdin and one stdout.
-fn main(rt: HostRuntime) {
-    let mut list = Vec::new(rt.alloc());
-    let _ = rt.stdin().take(65536).read_to_end(&mut list);
-    test_commands::run(list.as_slice());
+// Kept: no plainer: `test_calls`, `test_blocks` and `test_rust_answers` are one program over three inputs, and a crate has one stdin and one stdout. An array
+// and `io`, since a `Vec` could run out of memory.
+fn main() {
+    let mut list = [0u8; 65536];
+    let n = io::read_full(0, &mut list);
+    test_commands::run(&list[..n]);
 }

@@ -3,13 +3,13 @@
 // of more than 65,537 bytes, and one of which more is stored than it has, end the list.
 #![tactic(auto)]
 
-use std::io::{self, Read};
+use std::io::Read;
 
-fn list(rt: &impl Print, card: &[u8]) -> io::Result<()> {
+// A write that fails is passed over, here and in `main`.
+fn list(rt: &impl Print, card: &[u8]) {
     let mut out = [0u8; 420235];
-    match readout_text::list_card(card, &mut out) {
-        Some(n) => rt.write_all(&out[..n]),
-        None => Ok(()),
+    if let Some(n) = readout_text::list_card(card, &mut out) {
+        let _ = rt.write_all(&out[..n]);
     }
 }
 
@@ -25,15 +25,14 @@ fn next_card<'a>(input: &mut impl Read, room: &'a mut [u8]) -> Option<&'a [u8]> 
     Some(card)
 }
 
-fn main(rt: HostRuntime) -> io::Result<()> {
+fn main(rt: HostRuntime) {
     let mut input = rt.stdin();
     for _ in 0..1000 {
         let mut room = [0u8; 65537];
         let Some(card) = next_card(&mut input, &mut room) else {
             break;
         };
-        list(&rt, card)?;
-        println!(rt; "")?;
+        list(&rt, card);
+        let _ = println!(rt; "");
     }
-    Ok(())
 }

@@ -18,9 +18,12 @@ pub fn refused(refusal: Refusal) {
     say(b" refused ", refusal.number());
 }
 
-// The CRC-32 of some bytes, as a number.
+// The CRC-32 of some bytes, as a number: that of a frame over its first byte and the rest.
 pub fn sum(s: &[u8]) -> u64 {
-    u64::from(crc32::update_all(0xffff_ffff, s) ^ 0xffff_ffff)
+    match s {
+        [] => 0,
+        [first, rest @ ..] => u64::from(crc32_fold::checksum(*first, rest)),
+    }
 }
 
 pub fn say_crc(what: &[u8], s: &[u8]) {

@@ -28,7 +28,7 @@ fn say_answer(payloads: &[u8], answer: Result<QuestionAnswer, Refusal>) {
 
 // The first record of a queue, or that after a position: its position and length.
 // Kept: no plainer: the name beside its line, here and in writes: it stands in a buffer of its own, into which the line's word was turned.
-fn first(memory: HeldMemory<'_, u8, u8>, name: &[u8], line: Line<'_>) {
+fn first(memory: HeldMemory<'_, '_, u8, u8>, name: &[u8], line: Line<'_>) {
     let lower = line
         .number_of_word(b"after")
         .map_or(Bound::Unbounded, Bound::Excluded);
@@ -42,7 +42,7 @@ fn first(memory: HeldMemory<'_, u8, u8>, name: &[u8], line: Line<'_>) {
 }
 
 // The first record of each range: lower bound none, from and after a position, each with upper bound none, through and before another.
-fn ranges(memory: HeldMemory<'_, u8, u8>, name: &[u8], line: Line<'_>) {
+fn ranges(memory: HeldMemory<'_, '_, u8, u8>, name: &[u8], line: Line<'_>) {
     let from = line.number_or_0(b"from");
     let to = line.number_or_0(b"to");
     text(b"range");
@@ -67,7 +67,7 @@ fn say_first_block(answer: Result<Option<u64>, Refusal>) {
 }
 
 // The blocks of the entries that are held, at most 1,024, in the order of the record table: of each the bytes 24 to 31.
-pub fn show_blocks(memory: HeldMemory<'_, u8, u8>) {
+pub fn show_blocks(memory: HeldMemory<'_, '_, u8, u8>) {
     text(b" blocks");
     for i in 0..table_word(memory.table, 2).min(1024) as usize {
         say(b" ", table_word(memory.entries, block_word(i)));
@@ -75,7 +75,7 @@ pub fn show_blocks(memory: HeldMemory<'_, u8, u8>) {
 }
 
 // All records of a queue, one question after the other.
-fn show_records(memory: HeldMemory<'_, u8, u8>, name: &[u8]) {
+fn show_records(memory: HeldMemory<'_, '_, u8, u8>, name: &[u8]) {
     let mut lower = Bound::Unbounded;
     for _ in 0..1025 {
         let answer = range(memory, name, lower, Bound::Unbounded);
@@ -87,7 +87,7 @@ fn show_records(memory: HeldMemory<'_, u8, u8>, name: &[u8]) {
     }
 }
 
-fn show_queue(memory: HeldMemory<'_, u8, u8>, name: &[u8]) {
+fn show_queue(memory: HeldMemory<'_, '_, u8, u8>, name: &[u8]) {
     say_bytes(b"queue ", name);
     say_answer(memory.payloads, positions(memory, name));
     show_records(memory, name);
@@ -95,7 +95,7 @@ fn show_queue(memory: HeldMemory<'_, u8, u8>, name: &[u8]) {
 }
 
 // All queues, at most 64, in byte order of their names: these stand one after the other, and the table has their lengths.
-pub fn show_queues(memory: HeldMemory<'_, u8, u8>) {
+pub fn show_queues(memory: HeldMemory<'_, '_, u8, u8>) {
     let mut names = memory.names;
     for k in 0..table_word(memory.table, 0).min(64) as usize {
         let len = table_word(memory.table, 4 + 3 * k) as usize;
@@ -106,7 +106,7 @@ pub fn show_queues(memory: HeldMemory<'_, u8, u8>) {
     }
 }
 
-pub fn ask(memory: HeldMemory<'_, u8, u8>, question: Ask, name: &[u8], line: Line<'_>) {
+pub fn ask(memory: HeldMemory<'_, '_, u8, u8>, question: Ask, name: &[u8], line: Line<'_>) {
     match question {
         Ask::Positions => say_answer(memory.payloads, positions(memory, name)),
         Ask::First => first(memory, name, line),

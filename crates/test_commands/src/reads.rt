@@ -110,13 +110,16 @@ fn replay(writer: &mut LogWriter<'_>, queues: &mut QueueMemory<'_, u8, u8>) {
 }
 
 // A copy into a log that is lent.
-fn copy_into(writer: &mut LogWriter<'_>, held: HeldMemory<'_, u8, u8>) -> Result<usize, Refusal> {
+fn copy_into(
+    writer: &mut LogWriter<'_>,
+    held: HeldMemory<'_, '_, u8, u8>,
+) -> Result<usize, Refusal> {
     let log = &mut *writer.log;
     multi_record_log::copy(log, writer.scratch, held)
 }
 
 // A copy of what is held, and its replay into memory that is lent beside the log.
-fn copy(memory: &mut Memory<'_>, held: HeldMemory<'_, u8, u8>) {
+fn copy(memory: &mut Memory<'_>, held: HeldMemory<'_, '_, u8, u8>) {
     match copy_into(&mut memory.writer, held) {
         Ok(end) => {
             say(b" copied to ", end as u64);

@@ -5,7 +5,6 @@
 #![tactic(auto)]
 
 use multi_record_log::{HeldMemory, QueueMemory, Refusal, Replayed};
-use std::alloc::Global;
 use std::io::{self, Read};
 
 // The most bytes of a log, of a target and of a scratch; into more of these nothing is copied.
@@ -45,12 +44,12 @@ struct Case {
     change: Option<Change>,
 }
 
-fn update(sum: u32, s: &[u8]) -> u32 {
-    crc32::update_all(sum, s)
-}
-
+// CRC-32: that of a frame over the first byte and the rest.
 fn crc(s: &[u8]) -> u32 {
-    update(0xffff_ffff, s) ^ 0xffff_ffff
+    match s {
+        [] => 0,
+        [first, rest @ ..] => crc32_fold::checksum(*first, rest),
+    }
 }
 
 impl Queues {
@@ -76,13 +75,15 @@ impl Queues {
         multi_record_log::copy(target, scratch, memory)
     }
 
-    // One number that stands for the whole memory.
-    fn sum(&self) -> u32 {
-        let sum = update(update(0xffff_ffff, &self.names), &self.payloads);
-        update(
-            update(update(sum, &self.entries), &self.largest),
-            &self.table,
-        )
+    // Numbers that stand for the whole memory.
+    fn sums(&self) -> [u32; 5] {
+        [
+            crc(&self.names),
+            crc(&self.payloads),
+            crc(&self.entries),
+            crc(&self.largest),
+            crc(&self.table),
+        ]
     }
 }
 
@@ -126,61 +127,55 @@ fn next_case(input: &mut impl Read) -> io::Result<Case> {
 
 // The log: the bytes that are stored, as far as they can be read, and zeros after them. There is none that is longer than four blocks or has fewer bytes than
 // are stored.
-fn next_log(alloc: Global, input: &mut impl Read, case: Case) -> io::Result<Option<Vec<u8>>> {
-    if LONGEST_LOG < case.log_len {
-        return Ok(None);
-    }
-    let mut log = vec![in alloc; 0u8; case.log_len]?;
-    let Some(stored) = log.as_mut_slice().get_mut(..case.stored) else {
-        return Ok(None);
-    };
-    let _ = input.read_exact(stored);
-    Ok(Some(log))
+fn next_log<'a>(input: &mut impl Read, case: Case, room: &'a mut [u8]) -> Option<&'a [u8]> {
+    let log = room.get_mut(..case.log_len)?;
+    let _ = input.read_exact(log.get_mut(..case.stored)?);
+    Some(log)
 }
 
-fn tell_replay(rt: &impl Print, answer: Result<Replayed, Refusal>) -> io::Result<()> {
-    match answer {
+// A write that fails is passed over, here and below.
+fn tell_replay(rt: &impl Print, answer: Result<Replayed, Refusal>) {
+    let _ = match answer {
         Ok(Replayed { resumed, .. }) => print!(rt; "replayed to {resumed}"),
         Err(refusal) => print!(rt; "replay refused {}", refusal.number()),
-    }
+    };
 }
 
-fn tell_copy(rt: &impl Print, answer: Result<usize, Refusal>) -> io::Result<()> {
-    match answer {
+fn tell_copy(rt: &impl Print, answer: Result<usize, Refusal>) {
+    let _ = match answer {
         Ok(end) => print!(rt; ", copied to {end}"),
         Err(refusal) => print!(rt; ", refused {}", refusal.number()),
-    }
+    };
 }
 
 // The copy, and what it leaves: the target's whole blocks and what lies after them, and the scratch.
-fn copy(rt: &(impl Print + AllocGlobal), queues: &Queues, case: Case) -> io::Result<()> {
-    let mut target = vec![in rt.alloc(); 0xeeu8; case.target_len]?;
-    let mut scratch = vec![in rt.alloc(); 0x5au8; case.scratch_len]?;
-    tell_copy(
-        rt,
-        queues.copy(target.as_mut_slice(), scratch.as_mut_slice()),
-    )?;
+fn copy(rt: &impl Print, queues: &Queues, target: &mut [u8], scratch: &mut [u8]) {
+    tell_copy(rt, queues.copy(target, scratch));
     let (blocks, tail) = target.split_at(target.len() / 32768 * 32768);
-    let (blocks, tail, scratch) = (crc(blocks), crc(tail), crc(scratch.as_slice()));
-    print!(rt; ", blocks {blocks:08x}, tail {tail:08x}, scratch {scratch:08x}")
+    let (blocks, tail, scratch) = (crc(blocks), crc(tail), crc(scratch));
+    let _ = print!(rt; ", blocks {blocks:08x}, tail {tail:08x}, scratch {scratch:08x}");
 }
 
-// The same, and whether the queues stay.
-fn copy_kept(rt: &(impl Print + AllocGlobal), queues: &Queues, case: Case) -> io::Result<()> {
-    let before = queues.sum();
-    if case.target_len <= LONGEST_TARGET && case.scratch_len <= LONGEST_SCRATCH {
-        copy(rt, queues, case)?;
+// The same with a target and a scratch of the lengths that the case says, and whether the queues stay.
+fn copy_kept(rt: &impl Print, queues: &Queues, case: Case) {
+    let mut target = [0xeeu8; LONGEST_TARGET];
+    let mut scratch = [0x5au8; LONGEST_SCRATCH];
+    let before = queues.sums();
+    let target = target.get_mut(..case.target_len);
+    let scratch = scratch.get_mut(..case.scratch_len);
+    if let (Some(target), Some(scratch)) = (target, scratch) {
+        copy(rt, queues, target, scratch);
     }
-    let kept = if before == queues.sum() {
+    let kept = if before == queues.sums() {
         "stay"
     } else {
         "changed"
     };
-    println!(rt; ", queues {kept}")
+    let _ = println!(rt; ", queues {kept}");
 }
 
 // The queues of the log, the byte put into their table, and the copy.
-fn run(rt: &(impl Print + AllocGlobal), case: Case, log: &[u8]) -> io::Result<()> {
+fn run(rt: &impl Print, case: Case, log: &[u8]) {
     let mut queues = Queues {
         names: [0; 98304],
         payloads: [0; 98304],
@@ -188,26 +183,26 @@ fn run(rt: &(impl Print + AllocGlobal), case: Case, log: &[u8]) -> io::Result<()
         largest: [0; 8192],
         table: [0; 1568],
     };
-    tell_replay(rt, queues.replay(log))?;
+    tell_replay(rt, queues.replay(log));
     if let Some(Change { index, value }) = case.change {
         if let Some(byte) = queues.table.get_mut(index) {
             *byte = value;
         }
     }
-    copy_kept(rt, &queues, case)
+    copy_kept(rt, &queues, case);
 }
 
-fn main(rt: HostRuntime) -> io::Result<()> {
+fn main(rt: HostRuntime) {
     let mut input = rt.stdin();
     for _ in 0..1000 {
         let Ok(case) = next_case(&mut input) else {
             break;
         };
-        rt.write_all(&case.title)?;
-        let Some(log) = next_log(rt.alloc(), &mut input, case)? else {
+        let _ = rt.write_all(&case.title);
+        let mut room = [0u8; LONGEST_LOG];
+        let Some(log) = next_log(&mut input, case, &mut room) else {
             break;
         };
-        run(&rt, case, log.as_slice())?;
+        run(&rt, case, log);
     }
-    Ok(())
 }

@@ -4,7 +4,7 @@
 #![tactic(auto)]
 
 use listing::Text;
-use std::io::{self, Read};
+use std::io::Read;
 
 // A byte more than an input may have at most; the program ends at a stored input that is longer.
 const LONGEST: usize = 65537;
@@ -45,22 +45,22 @@ fn next_input(stdin: &mut impl Read, input: &mut [u8]) -> Option<usize> {
     None
 }
 
-fn print(rt: &impl Print, text: &[u8], log: &[u8]) -> io::Result<()> {
-    rt.write_all(text)?;
+// A write that fails is passed over.
+fn print(rt: &impl Print, text: &[u8], log: &[u8]) {
+    let _ = rt.write_all(text);
     let crc = crc32::update_all(0xffff_ffff, log) ^ 0xffff_ffff;
-    println!(rt; "log {crc:08x}\n")
+    let _ = println!(rt; "log {crc:08x}\n");
 }
 
-fn show(rt: &impl Print, input: &[u8]) -> io::Result<()> {
+fn show(rt: &impl Print, input: &[u8]) {
     let mut log = [0u8; 65536];
     let mut out = [0u8; 247570];
-    match drive_text::drive(input, &mut log, &mut out) {
-        Some(n) => print(rt, &out[..n], &log),
-        None => Ok(()),
+    if let Some(n) = drive_text::drive(input, &mut log, &mut out) {
+        print(rt, &out[..n], &log);
     }
 }
 
-fn main(rt: HostRuntime) -> io::Result<()> {
+fn main(rt: HostRuntime) {
     let mut stdin = rt.stdin();
     for _ in 0..1000 {
         let mut room = [0u8; LONGEST];
@@ -68,7 +68,6 @@ fn main(rt: HostRuntime) -> io::Result<()> {
         let Some(input) = len.and_then(|n| room.get(..n)) else {
             break;
         };
-        show(&rt, input)?;
+        show(&rt, input);
     }
-    Ok(())
 }

@@ -5,7 +5,6 @@
 #![tactic(auto)]
 
 use report::MeanLength;
-use std::alloc::{AllocError, Global};
 
 // The longest report and the longest log.
 const MAX_REPORT_LEN: usize = 256;
@@ -53,24 +52,23 @@ fn next_head() -> Option<Head> {
 
 // The run of an item: its stored bytes, where they are no more than the run has, and zeros after them.
 // Kept: no plainer by std: a run that is cut off counts as far as it goes, of which `read_exact` tells nothing; the head is read from the same input likewise.
-fn next_run(alloc: Global, head: Head) -> Result<Vec<u8>, AllocError> {
-    let mut run = vec![in alloc; 0u8; head.len]?;
-    if let Some(bytes) = run.as_mut_slice().get_mut(..head.stored) {
+fn read_run(run: &mut [u8], stored: usize) {
+    run.fill(0);
+    if let Some(bytes) = run.get_mut(..stored) {
         io::read_full(0, bytes);
     }
-    Ok(run)
 }
 
-// The whole numbers of 8 bytes.
-fn print_numbers(rt: &impl Print, held: &[u8]) -> std::io::Result<()> {
+// The whole numbers of 8 bytes. A write that fails is passed over, here and below.
+fn print_numbers(rt: &impl Print, held: &[u8]) {
     for number in held.as_chunks::<8>().0 {
-        print!(rt; " {}", u64::from_le_bytes(*number))?;
+        let _ = print!(rt; " {}", u64::from_le_bytes(*number));
     }
-    println!(rt; "")
+    let _ = println!(rt; "");
 }
 
-fn print_mean(rt: &impl Print, held: &[u8]) -> std::io::Result<()> {
-    match report::mean(held) {
+fn print_mean(rt: &impl Print, held: &[u8]) {
+    let _ = match report::mean(held) {
         Ok(
             Some(
                 MeanLength {
@@ -82,42 +80,53 @@ fn print_mean(rt: &impl Print, held: &[u8]) -> std::io::Result<()> {
         ) => println!(rt; "mean {whole} remainder {remainder} over {count}"),
         Ok(None) => println!(rt; "mean none"),
         Err(refusal) => println!(rt; "mean refused {}", refusal.number()),
-    }
+    };
 }
 
-fn print_report(rt: &impl Print, held: &[u8]) -> std::io::Result<()> {
+fn print_report(rt: &impl Print, held: &[u8]) {
     let len = held.len();
-    print!(rt; "report of {len}:")?;
-    print_numbers(rt, held)
+    let _ = print!(rt; "report of {len}:");
+    print_numbers(rt, held);
 }
 
 // A log fed to the report.
-fn feed(rt: &impl Print, held: &mut [u8], log: &[u8]) -> std::io::Result<()> {
+fn feed(rt: &impl Print, held: &mut [u8], log: &[u8]) {
     let number = report::number(report::feed(held, log));
     let len = log.len();
-    print!(rt; "log of {len}: {number}")?;
-    print_numbers(rt, held)
+    let _ = print!(rt; "log of {len}: {number}");
+    print_numbers(rt, held);
 }
 
-fn main(rt: HostRuntime) -> std::io::Result<()> {
-    let mut held = Vec::new(rt.alloc());
+// The log of an item.
+fn feed_run(rt: &impl Print, held: &mut [u8], head: Head) {
+    let mut room = [0u8; MAX_LOG_LEN];
+    let Some(log) = room.get_mut(..head.len) else {
+        return;
+    };
+    read_run(log, head.stored);
+    feed(rt, held, log);
+}
+
+fn main(rt: HostRuntime) {
+    let mut room = [0u8; MAX_REPORT_LEN];
+    let mut len = 0;
     for _ in 0..1000 {
         let Some(head) = next_head() else {
             break;
         };
+        if let Kind::Report = head.kind {
+            len = head.len;
+        }
+        let Some(held) = room.get_mut(..len) else {
+            break;
+        };
         match head.kind {
-            Kind::Report if MAX_REPORT_LEN < head.len => break,
             Kind::Report => {
-                held = next_run(rt.alloc(), head)?;
-                print_report(&rt, held.as_slice())?;
+                read_run(held, head.stored);
+                print_report(&rt, held);
             }
-            Kind::Log if MAX_LOG_LEN < head.len => (),
-            Kind::Log => {
-                let log = next_run(rt.alloc(), head)?;
-                feed(&rt, held.as_mut_slice(), log.as_slice())?;
-            }
-            Kind::Mean => print_mean(&rt, held.as_slice())?,
+            Kind::Log => feed_run(&rt, held, head),
+            Kind::Mean => print_mean(&rt, held),
         }
     }
-    Ok(())
 }

@@ -2,12 +2,11 @@
 // the Rust answered. `host/run sample` writes both files (host/src/bin/sample.rs).
 #![tactic(auto)]
 
-use std::io::Read;
-
 // The first 262,144 bytes of the input, as far as they can be read.
-// Kept: no plainer: `test_calls`, `test_blocks` and `test_rust_answers` are one program over three inputs, and a crate has one stdin and one stdout.
-fn main(rt: HostRuntime) {
-    let mut list = Vec::new(rt.alloc());
-    let _ = rt.stdin().take(262144).read_to_end(&mut list);
-    test_commands::run(list.as_slice());
+// Kept: no plainer: `test_calls`, `test_blocks` and `test_rust_answers` are one program over three inputs, and a crate has one stdin and one stdout. An array
+// and `io`, since a `Vec` could run out of memory.
+fn main() {
+    let mut list = [0u8; 262144];
+    let n = io::read_full(0, &mut list);
+    test_commands::run(&list[..n]);
 }
